@@ -1,0 +1,3 @@
+pub mod Descriptor
+pub mod Reading
+pub mod Answer

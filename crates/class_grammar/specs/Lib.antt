@@ -1,0 +1,6 @@
+pub mod Pieces
+pub mod Pool
+pub mod Names
+pub mod Code
+pub mod ClassBytes
+pub mod Built

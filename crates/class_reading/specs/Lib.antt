@@ -1,0 +1,5 @@
+pub mod Steps
+pub mod PoolReading
+pub mod NameReading
+pub mod CodeReading
+pub mod ClassReading

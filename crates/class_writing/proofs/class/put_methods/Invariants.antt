@@ -1,0 +1,8 @@
+use Rattle.std.proofs.Common.{take}
+use Rattle.class_input.specs.Grammar.{Each}
+use Rattle.class_grammar.specs.ClassBytes.{IsMethod}
+use Rattle.class_writing.specs.Writing.{Writes}
+use Rattle.class_writing.proofs.class.put_methods.Given as goal
+
+abbrev pub invariant-loop-method : goal.invariant-loop-method
+invariant-loop-method l = Writes (λ r text. Each (IsMethod r) text (take l.method-index l.methods)) l.initial.pool l.pool l.initial.out.items l.out.items

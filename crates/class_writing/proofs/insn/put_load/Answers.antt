@@ -1,0 +1,10 @@
+use Rattle.class_model.specs.declared.insn.Insn.TheVariants.{Load}
+use Rattle.class_model.specs.declared.insn.Kind.TheVariants as kinds
+use Rattle.class_writing.proofs.Insns.{plain_load, load_writes}
+use Rattle.class_writing.proofs.insn.put_load.Goals as goal
+
+pub returns-then-slot-lt4 : goal.returns-then-slot-lt4
+returns-then-slot-lt4 c = λ p. c.put_alone.ensures p (Load kinds.Int c.args.slot) (plain_load c.args.slot c.if-slot-lt4.true)
+
+pub returns : goal.returns
+returns c = λ p. load_writes p c.args.slot c.args.out.now.items c.put_byte.new.out.items c.requires c.in_ok-put_byte.ensures

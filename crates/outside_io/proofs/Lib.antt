@@ -1,0 +1,4 @@
+pub mod Fitting
+pub mod Fronts
+pub mod Logs
+pub mod Names

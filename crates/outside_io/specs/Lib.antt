@@ -1,0 +1,5 @@
+pub mod Causes
+pub mod Files
+pub mod MemoryKinds
+pub mod Streams
+pub mod WriteLog

@@ -1,0 +1,3 @@
+pub mod StraightLaws
+pub mod ToldLaws
+pub mod WrittenLaws

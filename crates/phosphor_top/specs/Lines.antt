@@ -1,0 +1,46 @@
+-- The lines that a command writes to standard error, as bytes. The texts are this project's own.
+use Rattle.std.specs.Prelude.{ℕ, List, [], ◌∷◌, ◌++◌, codes}
+
+abbrev pub ended : List ℕ → List ℕ
+ended text = text ++ 10 ∷ []
+
+abbrev pub usage_line : List ℕ
+usage_line = ended (codes "usage: phosphor instrument IN OUT CONFIG | run DIR MAIN STEPS | run-tagged DIR MAIN CONFIG STEPS | check DIR | sample N OUT")
+
+abbrev pub memory_line : List ℕ
+memory_line = ended (codes "out of memory")
+
+-- the folder of this path could not be listed
+abbrev pub list_fault_line : List ℕ → List ℕ
+list_fault_line dir = codes "read fault: list " ++ dir ++ 10 ∷ []
+
+-- the file of this path could not be read
+abbrev pub read_fault_line : List ℕ → List ℕ
+read_fault_line path = codes "read fault: " ++ path ++ 10 ∷ []
+
+-- the file of this path could not be written
+abbrev pub write_fault_line : List ℕ → List ℕ
+write_fault_line path = codes "write fault: " ++ path ++ 10 ∷ []
+
+-- the folder of this path holds more files than are read
+abbrev pub too_many_line : List ℕ → List ℕ
+too_many_line dir = codes "too many files: " ++ dir ++ 10 ∷ []
+
+-- the file of this path is longer than a file that is read
+abbrev pub too_long_line : List ℕ → List ℕ
+too_long_line path = codes "file too long: " ++ path ++ 10 ∷ []
+
+-- the class file of this path, relative to its folder, is of a form that is not built yet
+abbrev pub not_built_line : List ℕ → List ℕ
+not_built_line path = codes "refused: " ++ path ++ codes ": not built" ++ 10 ∷ []
+
+abbrev pub config_not_built_line : List ℕ
+config_not_built_line = ended (codes "refused: config: not built")
+
+-- there is no file of this path
+abbrev pub no_file_line : List ℕ → List ℕ
+no_file_line path = codes "refused: no file: " ++ path ++ 10 ∷ []
+
+-- the output folder of this path holds a file
+abbrev pub not_empty_line : List ℕ → List ℕ
+not_empty_line dir = codes "refused: not empty: " ++ dir ++ 10 ∷ []
