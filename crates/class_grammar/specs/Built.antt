@@ -1,5 +1,5 @@
 -- The classes that can be written so far, sizes aside: those of the forms that are read.
-use Rattle.std.specs.Prelude.{◌≡◌, ℕ, zero, suc, ◌<◌, false, List, [], Option, Some, None, All, IfSome, ℤ, pos, negsuc, ◌≤ℤ◌}
+use Rattle.std.specs.Prelude.{◌≡◌, ℕ, zero, suc, ◌<◌, false, List, [], None, All, IfSome, ℤ, pos, negsuc, ◌≤ℤ◌}
 use Rattle.class_model.specs.declared.class.FieldDef.{FieldDef}
 use Rattle.class_model.specs.declared.class.MethodDef.{MethodDef}
 use Rattle.class_model.specs.declared.class.CodeDef.{CodeDef}

@@ -1,5 +1,5 @@
 -- Instructions (JVMS 6.5) and the Code attribute (4.7.3), as far as they are read.
-use Rattle.std.specs.Prelude.{◌≡◌, ℕ, ◌+◌, ◌-◌, ◌<◌, ◌≤◌, ◌==◌, ◌&&◌, nat_le, ℤ, pos, ◌-ℤ◌, List, [], ◌∷◌, length, Option, Some, None, Bool, MatchBool, if◌then◌else◌}
+use Rattle.std.specs.Prelude.{◌≡◌, ℕ, ◌-◌, ◌<◌, ◌≤◌, ◌==◌, ◌&&◌, nat_le, pos, ◌-ℤ◌, List, [], ◌∷◌, length, Option, Some, None, Bool, MatchBool, if◌then◌else◌}
 use Rattle.std.specs.Int.{w8, w16, cast_signed}
 use Rattle.class_input.specs.Grammar.{IsU8, IsU16, IsU32, Each}
 use Rattle.class_model.specs.declared.class.CodeDef.{CodeDef}

@@ -1,6 +1,5 @@
 -- Types and members, as the texts of the constant pool spell them.
-use Rattle.std.specs.Prelude.{◌≡◌, ℕ, ◌==◌, Bool, true, false, List, [], ◌∷◌, Some, MatchBool}
-use Rattle.class_model.specs.declared.types.BaseType.{BaseType}
+use Rattle.std.specs.Prelude.{◌≡◌, ℕ, ◌==◌, Bool, false, List, [], ◌∷◌, Some, MatchBool}
 use Rattle.class_model.specs.declared.types.BaseType.TheVariants as bases
 use Rattle.class_model.specs.declared.types.JType.{JType}
 use Rattle.class_model.specs.declared.types.MethodDesc.{MethodDesc}

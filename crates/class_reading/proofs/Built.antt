@@ -1,12 +1,11 @@
 -- A class that bytes stand for can be written, sizes aside.
-use Rattle.std.proofs.Common.{◌≡◌, ◌≢◌, ◌⊎◌, inl, inr, ◌∙◌, ℕ, zero, suc, ◌+◌, ◌-◌, ◌<◌, ◌≤◌, ◌^◌, Bool, true, false, cond, eqb, leb, List, [], ◌∷◌, ◌++◌, length, get_or, Option, Some, None, refl, sym, ap, subst, arith, ℤ, pos, negsuc, ◌+ℤ◌, ◌-ℤ◌, ◌≤ℤ◌, All, IfSome, slice_get}
+use Rattle.std.proofs.Common.{◌≡◌, ◌⊎◌, inl, inr, ◌∙◌, ℕ, zero, suc, ◌-◌, ◌<◌, ◌≤◌, ◌^◌, Bool, true, false, cond, eqb, leb, List, [], ◌∷◌, ◌++◌, Option, Some, None, refl, sym, ap, subst, arith, pos, ◌-ℤ◌, All, IfSome, slice_get}
 use Rattle.std.specs.Prelude.{MatchBool, ◌&&◌, option_and_then, replicate}
 use Rattle.std.specs.Option.{option_to_list}
 use Rattle.std.specs.Int.{w8, w16, cast_signed}
-use Rattle.std.proofs.lemmas.Bool.{eqb-true, leb-true}
-use Rattle.std.proofs.lemmas.Grind.{common_steps}
+use Rattle.std.proofs.lemmas.Bool.{leb-true}
 use Rattle.std.proofs.lemmas.Int.{ints}
-use Rattle.std.proofs.lemmas.List.Elements.{All-nil, All-cons, All-head}
+use Rattle.std.proofs.lemmas.List.Elements.{All-nil, All-cons}
 use Rattle.std.proofs.lemmas.Option.{get_or_from_slice_get, slice_get_within}
 use Rattle.class_input.specs.Grammar.{Each}
 use Rattle.class_model.specs.declared.class.CodeDef.{CodeDef}
@@ -30,11 +29,11 @@ use Rattle.class_model.specs.declared.types.MethodRef.{MethodRef}
 use Rattle.class_model.specs.Descriptor.{letter_of, base_descriptor, field_descriptor, IsClassName, IsFieldType, SpellsField, SpellsMethod}
 use Rattle.class_grammar.specs.declared.entry.Entry.{Entry}
 use Rattle.class_grammar.specs.declared.entry.Entry.TheVariants.{Utf8, Class, Method, NameAndType}
-use Rattle.class_grammar.specs.Pool.{Pool, IsTextOf, IsEntry, entry_at, names, as_text, as_class_name, Indexes, MayIndex, IsPool}
-use Rattle.class_grammar.specs.Names.{is_array_name, class_type, IsClassType, IndexesType, IndexesDesc, NamesMethod}
+use Rattle.class_grammar.specs.Pool.{Pool, IsTextOf, IsEntry, entry_at, names, as_text, as_class_name, MayIndex}
+use Rattle.class_grammar.specs.Names.{is_array_name, class_type, NamesMethod}
 use Rattle.class_grammar.specs.Code.{within_family, plain, IsOperands, IsInsn, IsCode, IsCodeAttribute}
-use Rattle.class_grammar.specs.ClassBytes.{IsField, IsMethod, IsClassBody, ClassBytes}
-use Rattle.class_grammar.specs.Built.{IsBuiltText, IsBuiltType, IsBuiltDesc, IsReference, class_text, class_text_of, IsBuiltMethodRef, IsShort, IsBuiltInsn, IsBuiltCode, IsBuiltField, IsBuiltMethod, IsBuilt}
+use Rattle.class_grammar.specs.ClassBytes.{IsField, IsMethod, ClassBytes}
+use Rattle.class_grammar.specs.Built.{IsBuiltText, IsBuiltType, IsBuiltDesc, IsReference, class_text_of, IsBuiltMethodRef, IsShort, IsBuiltInsn, IsBuiltCode, IsBuiltField, IsBuiltMethod, IsBuilt}
 use Rattle.class_reading.proofs.StepLaws.{split}
 
 -- ---- texts of a pool

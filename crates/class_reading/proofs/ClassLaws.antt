@@ -1,16 +1,16 @@
 -- Reading a class file is exact for what its bytes are.
-use Rattle.std.proofs.Common.{◌≡◌, ◌⊎◌, inl, inr, ℕ, zero, suc, ◌+◌, ◌<◌, ◌≤◌, Bool, true, false, cond, eqb, List, [], ◌∷◌, ◌++◌, length, Option, Some, None, Result, Ok, Err, refl, sym, ap, subst, ◌∙◌, append_assoc, arith}
+use Rattle.std.proofs.Common.{◌≡◌, inl, inr, ℕ, zero, suc, Bool, true, false, cond, eqb, List, [], ◌∷◌, ◌++◌, length, Option, Some, None, Result, Ok, Err, refl, sym, ap, subst, ◌∙◌, arith}
 use Rattle.std.specs.Prelude.{MatchBool, MatchResult, IfOk, ◌&&◌, ◌==◌, slice_index}
 use Rattle.std.specs.Option.{option_to_list}
 use Rattle.std.specs.Int.{w16, w32}
 use Rattle.std.proofs.lemmas.Bool.{eqb-true}
 use Rattle.std.proofs.lemmas.List.{append-nil, nil_from_length}
-use Rattle.class_input.specs.declared.bad_class.BadKind.TheVariants.{Magic, Twice, NotBuilt, Trailing}
+use Rattle.class_input.specs.declared.bad_class.BadKind.TheVariants.{Magic, Twice, NotBuilt}
 use Rattle.class_input.specs.declared.bad_class.BadClass.{BadClass}
 use Rattle.class_input.specs.declared.bad_class.BadClass.TheVariants as errors
-use Rattle.class_input.specs.Reading.{In, Fault, Reading, ◌>>=◌, done, refused, here, number, each, Answers}
+use Rattle.class_input.specs.Reading.{In, Fault, ◌>>=◌, done, refused, here, number, each, Answers}
 use Rattle.class_input.specs.Grammar.{IsBytes, IsU16, IsU32, Each}
-use Rattle.class_input.proofs.Laws.{IsDone, Then, Walk, Exact, ExactBy, Exact-same, done_exact, refused_exact, then_exact, mapped_exact, here_exact, if_exact, u16_exact, u32_exact, each_exact, by_then, exact_by, by_exact_same, from, answer, answer_is}
+use Rattle.class_input.proofs.Laws.{IsDone, Then, Walk, Exact, Exact-same, done_exact, refused_exact, then_exact, mapped_exact, here_exact, if_exact, u16_exact, u32_exact, each_exact, by_then, exact_by, by_exact_same, from, answer}
 use Rattle.class_model.specs.declared.class.CodeDef.{CodeDef}
 use Rattle.class_model.specs.declared.class.FieldDef.{FieldDef}
 use Rattle.class_model.specs.declared.class.Constant.{Constant}
@@ -31,7 +31,7 @@ use Rattle.class_reading.specs.CodeReading.{code_content}
 use Rattle.class_reading.specs.ClassReading.{field, is_code_name, content, attribute, attributes, method, class_body, magic_of, magic, class_file, ended, closing, file}
 use Rattle.class_grammar.specs.Built.{IsBuilt}
 use Rattle.class_reading.proofs.Built.{class_built}
-use Rattle.class_reading.proofs.StepLaws.{split, on_true, front_alone, nothing_exact, table_exact}
+use Rattle.class_reading.proofs.StepLaws.{split, front_alone, nothing_exact, table_exact}
 use Rattle.class_reading.proofs.PoolLaws.{pool_by, indexed_exact}
 use Rattle.class_reading.proofs.NameLaws.{may_index_exact, type_index_exact, desc_index_exact}
 use Rattle.class_reading.proofs.CodeLaws.{then_joined, last_joined, Nothing, ContentR, code_content_exact}
@@ -67,10 +67,21 @@ field_to p text field h =
 field_from : (p : Pool) (text : List ℕ) (field : FieldDef) → IsField p text field → FieldR p text field
 field_from p text field h =
     let end : IsU16 (h.attributes ++ []) 0 = subst (λ (z : List ℕ). IsU16 z 0) (sym (append-nil h.attributes)) h.no_attribute in
-    let made : made_field field.flags field.name field.ty None ≡ field = ap (made_field field.flags field.name field.ty) (sym h.constant_is) in
-    (field.flags, h.flags, _, h.spelled, h.flags_are,
-    (field.name, h.name, _, refl, h.named,
-    (field.ty, h.descriptor, _, refl, h.described, (tt, end, made))))
+    let made : made_field field.flags field.name field.ty None ≡ field = ap (made_field field.flags field.name field.ty) (sym h.constant_is) in (
+      field.flags,
+      h.flags,
+      _,
+      h.spelled,
+      h.flags_are,
+      (
+        field.name,
+        h.name,
+        _,
+        refl,
+        h.named,
+        (field.ty, h.descriptor, _, refl, h.described, (tt, end, made)),
+      ),
+    )
 
 field_exact : (p : Pool) → Exact (IsField p) (field p)
 unfolding field
@@ -157,9 +168,14 @@ next_from : (p : Pool) (o : Option CodeDef) (text : List ℕ) (q : Option CodeDe
 next_from p (Some code) text q h = absurd (let e = h.0 in cc)
 next_from p None text q h =
     let a = h.2 in
-    let content_is : (let z : List ℕ = a.content in z ++ []) ≡ a.content = append-nil a.content in
-    (code_name, a.name, _, a.spelled, a.named,
-    (h.1, (length a.content, a.len, _, refl, a.length_is, (ap length content_is, subst (λ (z : List ℕ). IsCode p z h.1) (sym content_is) a.stands)), h.3))
+    let content_is : (let z : List ℕ = a.content in z ++ []) ≡ a.content = append-nil a.content in (
+      code_name,
+      a.name,
+      _,
+      a.spelled,
+      a.named,
+      (h.1, (length a.content, a.len, _, refl, a.length_is, (ap length content_is, subst (λ (z : List ℕ). IsCode p z h.1) (sym content_is) a.stands)), h.3),
+    )
 
 attribute_exact : (p : Pool) (o : Option CodeDef) → Exact (NextR p o) (attribute p o)
 unfolding attribute
@@ -249,10 +265,21 @@ method_to p text method h =
 method_from : (p : Pool) (text : List ℕ) (method : MethodDef) → IsMethod p text method → MethodR p text method
 method_from p text method h =
     let end : IsCodes p (h.attributes ++ []) method.code = subst (λ (z : List ℕ). IsCodes p z method.code) (sym (append-nil h.attributes)) h.code_is in
-    let made : made_method method.flags method.name method.desc [] method.code ≡ method = ap (λ (z : List (List ℕ)). made_method method.flags method.name method.desc z method.code) (sym h.throws_are) in
-    (method.flags, h.flags, _, h.spelled, h.flags_are,
-    (method.name, h.name, _, refl, h.named,
-    (method.desc, h.descriptor, _, refl, h.described, (method.code, end, made))))
+    let made : made_method method.flags method.name method.desc [] method.code ≡ method = ap (λ (z : List (List ℕ)). made_method method.flags method.name method.desc z method.code) (sym h.throws_are) in (
+      method.flags,
+      h.flags,
+      _,
+      h.spelled,
+      h.flags_are,
+      (
+        method.name,
+        h.name,
+        _,
+        refl,
+        h.named,
+        (method.desc, h.descriptor, _, refl, h.described, (method.code, end, made)),
+      ),
+    )
 
 method_exact : (p : Pool) → Exact (IsMethod p) (method p)
 unfolding method
@@ -330,13 +357,42 @@ body_from : (minor major : ℕ) (p : Pool) (text : List ℕ) (class : ClassDef) 
 body_from minor major p text class v =
     let h = v.stands in
     let end : IsU16 (h.attributes ++ []) 0 = subst (λ (z : List ℕ). IsU16 z 0) (sym (append-nil h.attributes)) h.no_attribute in
-    let made = made_is minor major class v.minor_is v.major_is h.interfaces_are h.source_is h.inner_are in
-    (class.flags, h.flags, _, h.spelled, h.flags_are,
-    (class.name, h.name, _, refl, h.named,
-    (class.super_name, h.super_name, _, refl, h.super_named,
-    (tt, h.interfaces, _, refl, h.no_interface,
-    (class.fields, h.fields, _, refl, h.fields_are,
-    (class.methods, h.methods, _, refl, h.methods_are, (tt, end, made)))))))
+    let made = made_is minor major class v.minor_is v.major_is h.interfaces_are h.source_is h.inner_are in (
+      class.flags,
+      h.flags,
+      _,
+      h.spelled,
+      h.flags_are,
+      (
+        class.name,
+        h.name,
+        _,
+        refl,
+        h.named,
+        (
+          class.super_name,
+          h.super_name,
+          _,
+          refl,
+          h.super_named,
+          (
+            tt,
+            h.interfaces,
+            _,
+            refl,
+            h.no_interface,
+            (
+              class.fields,
+              h.fields,
+              _,
+              refl,
+              h.fields_are,
+              (class.methods, h.methods, _, refl, h.methods_are, (tt, end, made)),
+            ),
+          ),
+        ),
+      ),
+    )
 
 body_exact : (minor major : ℕ) (p : Pool) → Exact (IsVersioned minor major p) (class_body minor major p)
 unfolding class_body
@@ -403,11 +459,28 @@ class_to text class h =
 
 class_from : (text : List ℕ) (class : ClassDef) → ClassBytes text class → ClassR text class
 class_from text class h =
-    let end : IsClassBody h.pool (h.body ++ []) class = subst (λ (z : List ℕ). IsClassBody h.pool z class) (sym (append-nil h.body)) h.body_is in
-    (tt, h.magic, _, h.spelled, h.magic_is,
-    (class.minor, h.minor, _, refl, h.minor_is,
-    (class.major, h.major, _, refl, h.major_is,
-    (h.pool, h.pool_text, _, refl, h.pool_is, record { minor_is = refl; major_is = refl; stands = end }))))
+    let end : IsClassBody h.pool (h.body ++ []) class = subst (λ (z : List ℕ). IsClassBody h.pool z class) (sym (append-nil h.body)) h.body_is in (
+      tt,
+      h.magic,
+      _,
+      h.spelled,
+      h.magic_is,
+      (
+        class.minor,
+        h.minor,
+        _,
+        refl,
+        h.minor_is,
+        (
+          class.major,
+          h.major,
+          _,
+          refl,
+          h.major_is,
+          (h.pool, h.pool_text, _, refl, h.pool_is, record { minor_is = refl; major_is = refl; stands = end }),
+        ),
+      ),
+    )
 
 class_exact : Exact ClassBytes class_file
 unfolding class_file

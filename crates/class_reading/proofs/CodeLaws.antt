@@ -1,12 +1,12 @@
 -- Reading code is exact for what its bytes are.
-use Rattle.std.proofs.Common.{◌≡◌, ◌⊎◌, inl, inr, ℕ, zero, suc, ◌+◌, ◌<◌, ◌≤◌, Bool, true, false, cond, ltb, eqb, List, [], ◌∷◌, ◌++◌, length, Option, Some, None, Result, Ok, Err, refl, sym, ap, subst, ◌∙◌, append_assoc, arith}
-use Rattle.std.specs.Prelude.{MatchBool, ◌%◌, ◌||◌}
+use Rattle.std.proofs.Common.{◌≡◌, ℕ, ◌<◌, ◌≤◌, Bool, true, false, cond, ltb, eqb, List, [], ◌∷◌, ◌++◌, length, Option, Some, None, Result, Ok, Err, refl, sym, ap, subst, ◌∙◌, arith}
+use Rattle.std.specs.Prelude.{◌%◌, ◌||◌}
 use Rattle.std.specs.Int.{w8, w16, w32, cast_signed}
 use Rattle.std.proofs.lemmas.Bool.{eqb-false, ltb-false, le-ltb}
 use Rattle.std.proofs.lemmas.Grind.{common_steps}
-use Rattle.std.proofs.lemmas.List.{append-nil, length-append}
+use Rattle.std.proofs.lemmas.List.{append-nil}
 use Rattle.class_input.specs.declared.bad_class.BadKind.TheVariants.{NotBuilt}
-use Rattle.class_input.specs.Reading.{In, Fault, Reading, ◌>>=◌, done, refused, here, lifted, number, within}
+use Rattle.class_input.specs.Reading.{Fault, ◌>>=◌, done, here, lifted, number, within}
 use Rattle.class_input.specs.Grammar.{IsU8, IsU16, IsU32, Each}
 use Rattle.class_input.proofs.Laws.{IsDone, Then, IsAnswer, Exact, Exact-same, done_exact, refused_exact, then_exact, mapped_exact, here_exact, if_exact, lifted_exact, u8_exact, u16_exact, u32_exact, within_exact}
 use Rattle.class_model.specs.declared.class.CodeDef.{CodeDef}
@@ -171,12 +171,35 @@ code_to p text code h =
 code_from : (p : Pool) (text : List ℕ) (code : CodeDef) → IsCode p text code → CodeR p text code
 code_from p text code h =
     let end : IsU16 (h.attributes ++ []) 0 = subst (λ (z : List ℕ). IsU16 z 0) (sym (append-nil h.attributes)) h.no_attribute in
-    let made = made_is code h.handlers_are h.frames_are h.lines_are in
-    (code.max_stack, h.max_stack, _, h.spelled, h.stack_is,
-    (code.max_locals, h.max_locals, _, refl, h.locals_are,
-    (length h.insns, h.code_length, _, refl, record { is = h.length_is; some = h.some_code; most = h.no_longer },
-    (code.insns, h.insns, _, refl, (refl, h.each_is),
-    (tt, h.handlers, _, refl, h.no_handler, (tt, end, made))))))
+    let made = made_is code h.handlers_are h.frames_are h.lines_are in (
+      code.max_stack,
+      h.max_stack,
+      _,
+      h.spelled,
+      h.stack_is,
+      (
+        code.max_locals,
+        h.max_locals,
+        _,
+        refl,
+        h.locals_are,
+        (
+          length h.insns,
+          h.code_length,
+          _,
+          refl,
+          record { is = h.length_is; some = h.some_code; most = h.no_longer },
+          (
+            code.insns,
+            h.insns,
+            _,
+            refl,
+            (refl, h.each_is),
+            (tt, h.handlers, _, refl, h.no_handler, (tt, end, made)),
+          ),
+        ),
+      ),
+    )
 
 code_exact : (p : Pool) → Exact (IsCode p) (code p)
 unfolding code

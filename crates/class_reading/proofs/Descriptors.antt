@@ -1,9 +1,9 @@
 -- What the texts of descriptors spell, as far as a reader sees it.
-use Rattle.std.proofs.Common.{◌≡◌, ℕ, List, Option, Some, None, Result, Ok, Err, ap, refl}
+use Rattle.std.proofs.Common.{◌≡◌, ℕ, List, Some, None, Result, Ok, Err, ap, refl}
 use Rattle.class_model.specs.declared.types.JType.{JType}
 use Rattle.class_model.specs.declared.types.MethodDesc.{MethodDesc}
 use Rattle.class_model.specs.Descriptor.{SpellsField, SpellsMethod}
-use Rattle.class_model.specs.Reading.{Part, Dimensions, InField, Opening, read_field, read_method, value_of, field_of, method_of}
+use Rattle.class_model.specs.Reading.{Dimensions, InField, Opening, read_field, read_method, value_of, field_of, method_of}
 use Rattle.class_model.proofs.Fields.{field_exact}
 use Rattle.class_model.proofs.Methods.{method_exact}
 

@@ -1,5 +1,5 @@
 -- Reading types and members is exact for what indices name.
-use Rattle.std.proofs.Common.{◌≡◌, ◌⊎◌, inl, inr, ◌≢◌, ℕ, zero, suc, ◌+◌, ◌<◌, ◌≤◌, Bool, true, false, cond, eqb, List, [], ◌∷◌, ◌++◌, length, Option, Some, None, Result, Ok, Err, refl, sym, ap, subst, ◌∙◌, arith, All}
+use Rattle.std.proofs.Common.{◌≡◌, ◌≢◌, ℕ, Bool, true, false, cond, eqb, List, [], ◌∷◌, length, Option, Some, None, refl, sym, ap, subst, arith, All}
 use Rattle.std.specs.Prelude.{MatchBool, ◌==◌, ◌||◌, ◌&&◌, not, option_and_then}
 use Rattle.std.specs.List.{list_any}
 use Rattle.std.specs.Int.{w16}
@@ -9,11 +9,10 @@ use Rattle.std.proofs.lemmas.List.{append-nil}
 use Rattle.std.proofs.lemmas.List.Elements.{All-nil, All-cons, All-weaker}
 use Rattle.std.proofs.lemmas.List.Folds.{list_any_none}
 use Rattle.class_input.specs.declared.bad_class.BadKind.TheVariants.{Descriptor}
-use Rattle.class_input.specs.Reading.{Fault, Reading, ◌>>=◌, here, lifted, judging, number}
+use Rattle.class_input.specs.Reading.{◌>>=◌, here, lifted, judging, number}
 use Rattle.class_input.specs.Grammar.{IsU16}
 use Rattle.class_input.proofs.Laws.{Then, IsAnswer, Exact, Exact-same, then_exact, here_exact, lifted_exact, u16_exact}
 use Rattle.class_model.specs.declared.types.JType.{JType}
-use Rattle.class_model.specs.declared.types.MethodDesc.{MethodDesc}
 use Rattle.class_model.specs.declared.types.MethodRef.{MethodRef}
 use Rattle.class_model.specs.Descriptor.{IsClassName, SpellsField, SpellsMethod}
 use Rattle.class_model.specs.Reading.{field_of, method_of}
@@ -25,8 +24,8 @@ use Rattle.class_reading.specs.Steps.{fit}
 use Rattle.class_reading.specs.PoolReading.{named, indexed}
 use Rattle.class_reading.specs.NameReading.{optional, may_index, is_separator, is_plain_class, plain_class, class_type_of, type_index, desc_index, method_at, method_index}
 use Rattle.class_reading.proofs.Descriptors.{field_spelled, field_found, method_spelled, method_found}
-use Rattle.class_reading.proofs.StepLaws.{split, on_true, on_false, front_alone, fine, fit_is}
-use Rattle.class_reading.proofs.PoolLaws.{named_is, is_named, judging_is, is_judging, indexed_exact}
+use Rattle.class_reading.proofs.StepLaws.{front_alone, fine, fit_is}
+use Rattle.class_reading.proofs.PoolLaws.{named_is, is_named, judging_is, indexed_exact}
 
 -- ---- an index that may be 0
 

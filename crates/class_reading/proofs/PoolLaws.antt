@@ -1,17 +1,17 @@
 -- Reading a constant pool is exact for what the bytes of one are.
-use Rattle.std.proofs.Common.{◌≡◌, ◌⊎◌, inl, inr, ℕ, zero, suc, ◌+◌, ◌-◌, ◌^◌, ◌<◌, ◌≤◌, Bool, true, false, cond, ltb, eqb, List, [], ◌∷◌, ◌++◌, length, get_or, map, Option, Some, None, Result, Ok, Err, refl, sym, ap, subst, ◌∙◌, append_assoc, add-one, lit<, arith, All}
-use Rattle.std.specs.Prelude.{MatchBool, ◌%◌, ◌||◌, not, option_and_then}
-use Rattle.std.specs.List.{position, position_or_len}
-use Rattle.std.specs.Int.{w8, w16, to_be_bytes}
+use Rattle.std.proofs.Common.{◌≡◌, inl, inr, ℕ, zero, suc, ◌+◌, ◌<◌, ◌≤◌, Bool, true, false, cond, ltb, eqb, List, [], ◌∷◌, ◌++◌, length, Option, Some, None, Result, Ok, Err, refl, sym, ap, subst, ◌∙◌, add-one, lit<, arith, All}
+use Rattle.std.specs.Prelude.{MatchBool, ◌%◌, not, option_and_then}
+use Rattle.std.specs.List.{position_or_len}
+use Rattle.std.specs.Int.{w8, w16}
 use Rattle.std.proofs.lemmas.Bool.{cases_lt, eqb-true, ltb-false, le-ltb}
 use Rattle.std.proofs.lemmas.Grind.{common_steps}
-use Rattle.std.proofs.lemmas.List.{append-nil, length-append, length-map, get_or_past}
+use Rattle.std.proofs.lemmas.List.{append-nil, get_or_past}
 use Rattle.std.proofs.lemmas.List.Elements.{All-nil, All-cons, All-head, All-tail, All-weaker, All-get_or}
 use Rattle.std.proofs.lemmas.List.Sums.{position_or_len_is}
-use Rattle.class_input.specs.declared.bad_class.BadKind.TheVariants.{PoolTag, PoolCount, PoolIndex, PoolKind}
-use Rattle.class_input.specs.Reading.{In, Fault, Reading, ◌>>=◌, done, refused, here, lifted, judging, checked, bytes, number, many}
+use Rattle.class_input.specs.declared.bad_class.BadKind.TheVariants.{PoolCount, PoolKind}
+use Rattle.class_input.specs.Reading.{Fault, ◌>>=◌, done, refused, here, lifted, judging, checked, bytes, number, many}
 use Rattle.class_input.specs.Grammar.{IsBytes, IsU8, IsU16, Each}
-use Rattle.class_input.proofs.Laws.{IsText, IsDone, Then, IsAnswer, Exact, ExactBy, Exact-same, refused_exact, then_exact, mapped_exact, here_exact, if_exact, lifted_exact, bytes_exact, u8_exact, u16_exact, by_exact, by_same, by_here, by_then, by_exact_same}
+use Rattle.class_input.proofs.Laws.{IsText, Then, IsAnswer, Exact, ExactBy, Exact-same, refused_exact, then_exact, mapped_exact, here_exact, if_exact, lifted_exact, bytes_exact, u8_exact, u16_exact, by_exact, by_same, by_here, by_then, by_exact_same}
 use Rattle.class_grammar.specs.declared.entry.Entry.{Entry}
 use Rattle.class_grammar.specs.declared.entry.Entry.TheVariants.{Utf8, Class, Method, NameAndType}
 use Rattle.class_grammar.specs.Pool.{Pool, tag_of, IsTextOf, IsTwo, IsBody, IsEntry, entry_at, names, as_text, as_class, as_pair, Indexes, IsNamed, Refers, IsPool}

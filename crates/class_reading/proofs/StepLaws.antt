@@ -1,14 +1,14 @@
 -- The steps that several structures share are exact for the forms that they read.
-use Rattle.std.proofs.Common.{◌≡◌, ◌⊎◌, inl, inr, ℕ, zero, suc, ◌+◌, ◌<◌, ◌≤◌, Bool, true, false, cond, ltb, eqb, List, [], ◌∷◌, ◌++◌, length, map, take, drop, Option, Some, None, Result, Ok, Err, refl, sym, ap, subst, ◌∙◌, append_assoc, add-zero, arith}
+use Rattle.std.proofs.Common.{◌≡◌, ◌⊎◌, inl, inr, ℕ, zero, suc, ◌+◌, ◌≤◌, Bool, true, false, cond, ltb, eqb, List, [], ◌∷◌, ◌++◌, length, map, take, drop, Option, Some, None, Result, Ok, Err, refl, sym, ap, subst, ◌∙◌, append_assoc, add-zero, arith}
 use Rattle.std.specs.Prelude.{MatchBool}
 use Rattle.std.specs.Int.{w16}
-use Rattle.std.proofs.lemmas.Bool.{eqb-true, eq-eqb, ltb-false, le-ltb}
-use Rattle.std.proofs.lemmas.List.{append-nil, length-append, length-take, length-map, map-append, nil_from_length, take_at, drop_at, take-append-drop}
+use Rattle.std.proofs.lemmas.Bool.{eqb-true, ltb-false, le-ltb}
+use Rattle.std.proofs.lemmas.List.{append-nil, length-append, length-take, map-append, nil_from_length, take_at, drop_at, take-append-drop}
 use Rattle.class_input.specs.declared.bad_class.BadKind.{BadKind}
 use Rattle.class_input.specs.declared.bad_class.BadKind.TheVariants.{Short, NotBuilt}
 use Rattle.class_input.specs.Reading.{In, Fault, Reading, bind, ◌>>=◌, done, refused, here, number, many, each, one_more}
 use Rattle.class_input.specs.Grammar.{IsBytes, IsU16, Each}
-use Rattle.class_input.proofs.Laws.{IsBytes-take, IsBytes-after, answer, answer_is, bind_ok, Takes, from, Exact, ExactBy, Exact-same, IsDone, Then, Walk, done_exact, refused_exact, then_exact, here_exact, if_exact, u16_exact, many_exact, by_exact, by_same, by_then, each_by}
+use Rattle.class_input.proofs.Laws.{IsBytes-take, IsBytes-after, answer, answer_is, bind_ok, from, Exact, ExactBy, Exact-same, IsDone, Then, Walk, done_exact, refused_exact, then_exact, here_exact, if_exact, u16_exact, many_exact, by_exact, by_same, by_then, each_by}
 use Rattle.class_grammar.specs.Pieces.{IsTable}
 use Rattle.class_reading.specs.Steps.{table, nothing, nothing_of, next, whole, filling, fit}
 

@@ -1,8 +1,8 @@
 -- Reading a class file from left to right, with the first bad place.
-use Rattle.std.specs.Prelude.{ℕ, List, [], ◌∷◌, length, Bool, ◌&&◌, slice_index, Option, Some, None, Result, Ok, Err, ◌==◌, if◌then◌else◌}
+use Rattle.std.specs.Prelude.{ℕ, List, [], length, Bool, ◌&&◌, slice_index, Option, Some, None, Result, Ok, Err, ◌==◌, if◌then◌else◌}
 use Rattle.std.specs.Int.{w16, w32}
 use Rattle.class_input.specs.declared.bad_class.BadKind.TheVariants.{Magic, Twice, Trailing, NotBuilt}
-use Rattle.class_input.specs.Reading.{In, Fault, Reading, bind, ◌>>=◌, done, refused, here, number, each}
+use Rattle.class_input.specs.Reading.{In, Fault, Reading, ◌>>=◌, done, refused, here, number, each}
 use Rattle.class_model.specs.declared.class.CodeDef.{CodeDef}
 use Rattle.class_model.specs.declared.class.FieldDef.{FieldDef}
 use Rattle.class_model.specs.declared.class.MethodDef.{MethodDef}
@@ -28,8 +28,8 @@ is_code_name name = (length name == 4) && ((slice_index name 0 == 67) && ((slice
 -- the content of an attribute of a name, behind those that gave o
 abbrev pub content : Pool → ℕ → List ℕ → Option CodeDef → Reading (Option CodeDef)
 content p at name None = if is_code_name name then (do
-    code ← code_content p
-    done (Some code)) else refused at NotBuilt
+  code ← code_content p
+  done (Some code)) else refused at NotBuilt
 content p at name (Some code) = if is_code_name name then refused at Twice else refused at NotBuilt
 
 -- one attribute of a method more, behind those that gave o

@@ -1,9 +1,9 @@
 -- Reading a constant pool from left to right, with the first bad place.
-use Rattle.std.specs.Prelude.{ℕ, zero, suc, ◌+◌, ◌==◌, ◌||◌, ◌&&◌, nat_lt, List, [], ◌∷◌, map, slice_index, Bool, Option, Some, None, Result, Ok, Err, if◌then◌else◌, position}
+use Rattle.std.specs.Prelude.{ℕ, zero, suc, ◌+◌, ◌==◌, ◌||◌, ◌&&◌, nat_lt, List, map, slice_index, Bool, Option, Some, None, Result, Ok, Err, if◌then◌else◌, position}
 use Rattle.std.specs.Int.{w8, w16}
 use Rattle.class_input.specs.declared.bad_class.BadKind.{BadKind}
 use Rattle.class_input.specs.declared.bad_class.BadKind.TheVariants.{PoolTag, PoolCount, PoolIndex, PoolKind, Text, NotBuilt}
-use Rattle.class_input.specs.Reading.{In, Fault, Reading, ◌>>=◌, done, refused, here, lifted, judging, checked, bytes, number, many}
+use Rattle.class_input.specs.Reading.{Fault, Reading, ◌>>=◌, done, refused, here, lifted, judging, checked, bytes, number, many}
 use Rattle.class_grammar.specs.declared.entry.Entry.{Entry}
 use Rattle.class_grammar.specs.declared.entry.Entry.TheVariants.{Utf8, Class, Method, NameAndType}
 use Rattle.class_grammar.specs.Pool.{Pool, entry_at, as_text, as_class, as_pair}

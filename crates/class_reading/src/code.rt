@@ -46,10 +46,7 @@ fn insn(alloc: Global, pool: &[Placed], input: &mut Input) -> Result<Insn, BadCl
         17 => Ok(Insn::PushInt(i32::from(input.u16()?.cast_signed()))),
         21 => Ok(Insn::Load(Kind::Int, u16::from(input.u8()?))),
         54 => Ok(Insn::Store(Kind::Int, u16::from(input.u8()?))),
-        184 => Ok(Insn::Invoke(
-            InvokeKind::Static,
-            method_index(alloc, pool, input)?,
-        )),
+        184 => Ok(Insn::Invoke(InvokeKind::Static, method_index(alloc, pool, input)?)),
         _ => plain(opcode).ok_or(BadClass::Bad {
             place,
             kind: BadKind::NotBuilt,

@@ -40,7 +40,11 @@ pub fn class_name<'a>(pool: &'a [Placed], input: &mut Input) -> Result<&'a Name,
 
 /// The name of the class of the next index, unless that is 0.
 #[tactic(auto, unfolding(crate::specs::NameReading::may_index))]
-pub fn may_class_name(alloc: Global, pool: &[Placed], input: &mut Input) -> Result<Option<Name>, BadClass>
+pub fn may_class_name(
+    alloc: Global,
+    pool: &[Placed],
+    input: &mut Input,
+) -> Result<Option<Name>, BadClass>
     ensures { Gives result input.new (reading.may_index (grammar.as_class_name (pool_of pool.now)) (pool_of pool.now) (seen input.old)) }
 {
     let at = input.at;
@@ -148,7 +152,12 @@ pub fn desc_index(alloc: Global, pool: &[Placed], input: &mut Input) -> Result<M
 
 /// The method that an index names.
 #[tactic(auto, unfolding(crate::specs::NameReading::method_at))]
-fn method_ref(alloc: Global, pool: &[Placed], place: usize, index: u16) -> Result<MethodRef, BadClass>
+fn method_ref(
+    alloc: Global,
+    pool: &[Placed],
+    place: usize,
+    index: u16,
+) -> Result<MethodRef, BadClass>
     ensures { Answers (λ m. m) result (reading.method_at (pool_of pool.now) place index) }
 {
     let (class, pair) = method_at(pool, place, index)?;
@@ -168,7 +177,11 @@ fn method_ref(alloc: Global, pool: &[Placed], place: usize, index: u16) -> Resul
 
 /// The method that is called, by the next index.
 #[tactic(auto, unfolding(crate::specs::NameReading::method_index))]
-pub fn method_index(alloc: Global, pool: &[Placed], input: &mut Input) -> Result<MethodRef, BadClass>
+pub fn method_index(
+    alloc: Global,
+    pool: &[Placed],
+    input: &mut Input,
+) -> Result<MethodRef, BadClass>
     ensures { Gives result input.new (reading.method_index (pool_of pool.now) (seen input.old)) }
 {
     let at = input.at;

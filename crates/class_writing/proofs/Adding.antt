@@ -1,16 +1,16 @@
 -- What an index of a growing pool stands for, it stands for in each pool that extends this one.
-use Rattle.std.proofs.Common.{◌≡◌, ◌⊎◌, inl, inr, ◌∙◌, ℕ, zero, suc, ◌+◌, ◌-◌, ◌<◌, ◌≤◌, ◌^◌, Bool, true, false, cond, eqb, List, [], ◌∷◌, ◌++◌, length, Option, Some, None, refl, sym, ap, subst, append_assoc, arith, All, slice_get}
+use Rattle.std.proofs.Common.{◌≡◌, inl, inr, ◌∙◌, ℕ, zero, suc, ◌+◌, ◌-◌, ◌≤◌, Bool, true, false, eqb, List, [], ◌∷◌, ◌++◌, length, Option, Some, None, refl, sym, ap, subst, append_assoc, arith, slice_get}
 use Rattle.std.specs.Prelude.{option_and_then}
 use Rattle.std.proofs.lemmas.Grind.{common_steps}
 use Rattle.std.proofs.lemmas.Option.{slice_get_within}
-use Rattle.std.proofs.lemmas.List.{append-nil, length-append}
+use Rattle.std.proofs.lemmas.List.{append-nil}
 use Rattle.std.proofs.lemmas.List.Elements.{All-weaker, All-push}
 use Rattle.class_model.specs.declared.types.MethodRef.{MethodRef}
 use Rattle.class_model.specs.Descriptor.{SpellsMethod}
 use Rattle.class_grammar.specs.declared.entry.Entry.{Entry}
 use Rattle.class_grammar.specs.declared.entry.Entry.TheVariants.{Utf8, Class, Method, NameAndType}
 use Rattle.class_grammar.specs.Pool.{Pool, IsTextOf, entry_at, names, as_text, as_class, as_class_name, as_method, as_pair, IsNamed, Refers}
-use Rattle.class_grammar.specs.Names.{IsClassType, NamesMethod}
+use Rattle.class_grammar.specs.Names.{IsClassType}
 use Rattle.class_writing.specs.Writing.{Extends, IsWritable, IsWell, Grew, AddsEntry, Adds, TextClaim, ClassClaim, PairClaim, MethodClaim}
 
 pub Extends-same : (p : Pool) → Extends p p

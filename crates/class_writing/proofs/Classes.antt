@@ -1,7 +1,6 @@
 -- The bytes that are written for a class behind its constant pool are that class.
-use Rattle.std.proofs.Common.{◌≡◌, ◌∙◌, ℕ, ◌+◌, ◌<◌, ◌≤◌, ◌^◌, List, [], ◌∷◌, ◌++◌, length, Option, Some, None, refl, sym, ap, subst, arith}
+use Rattle.std.proofs.Common.{◌≡◌, ◌∙◌, ℕ, List, [], length, Option, Some, None, sym, subst}
 use Rattle.std.specs.Option.{option_to_list}
-use Rattle.std.proofs.lemmas.List.{append-nil}
 use Rattle.class_input.specs.Grammar.{IsU16, IsU32, Each}
 use Rattle.class_model.specs.declared.class.FieldDef.{FieldDef}
 use Rattle.class_model.specs.declared.class.MethodDef.{MethodDef}
@@ -12,7 +11,7 @@ use Rattle.class_grammar.specs.Names.{IndexesType, IndexesDesc}
 use Rattle.class_grammar.specs.Built.{IsBuiltField, IsBuiltMethod, IsBuilt}
 use Rattle.class_grammar.specs.Code.{IsCodeAttribute}
 use Rattle.class_grammar.specs.ClassBytes.{IsField, IsMethod, IsClassBody, ClassBytes}
-use Rattle.class_writing.specs.Writing.{Extends, IsWell, Puts, Writes}
+use Rattle.class_writing.specs.Writing.{Puts, Writes}
 use Rattle.class_writing.proofs.Adding.{Extends-same}
 use Rattle.class_writing.proofs.Pieces.{Two, Both, then_writes, plain_writes, writes_as, then_joined, last_joined}
 use Rattle.class_writing.proofs.Codes.{IsSame}

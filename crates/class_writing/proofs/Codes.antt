@@ -1,15 +1,15 @@
 -- The bytes that are written for code are that code.
-use Rattle.std.proofs.Common.{◌≡◌, ◌∙◌, ℕ, ◌+◌, ◌<◌, ◌≤◌, ◌^◌, List, [], ◌∷◌, ◌++◌, length, Option, Some, None, refl, sym, ap, subst, arith, lit<}
+use Rattle.std.proofs.Common.{◌≡◌, ℕ, ◌<◌, ◌≤◌, List, [], ◌∷◌, ◌++◌, length, Option, refl, sym, subst}
 use Rattle.std.specs.Option.{option_to_list}
 use Rattle.std.proofs.lemmas.List.{append-nil}
 use Rattle.class_input.specs.Grammar.{IsU16, IsU32, Each}
 use Rattle.class_model.specs.declared.class.CodeDef.{CodeDef}
 use Rattle.class_grammar.specs.Pieces.{IsTable}
-use Rattle.class_grammar.specs.Pool.{Pool, as_text, Indexes}
+use Rattle.class_grammar.specs.Pool.{Pool}
 use Rattle.class_grammar.specs.Built.{IsBuiltCode}
 use Rattle.class_grammar.specs.Code.{code_name, IsInsn, IsCode, IsCodeAttribute}
-use Rattle.class_writing.specs.Writing.{Extends, Adds, Puts, Writes, TextClaim}
-use Rattle.class_writing.proofs.Adding.{Extends-same, Extends-then}
+use Rattle.class_writing.specs.Writing.{Adds, Puts, Writes, TextClaim}
+use Rattle.class_writing.proofs.Adding.{Extends-then}
 use Rattle.class_writing.proofs.Pieces.{Two, Both, then_writes, plain_writes, writes_as, then_joined, last_joined}
 
 abbrev pub IsSame : List ℕ → List ℕ → Type 0

@@ -1,10 +1,10 @@
 -- The bytes that are written for a constant pool are that pool.
-use Rattle.std.proofs.Common.{◌≡◌, ◌∙◌, ℕ, ◌+◌, ◌<◌, ◌≤◌, ◌^◌, List, [], ◌∷◌, ◌++◌, length, take, get_or, Option, Some, None, refl, sym, ap, subst, append_assoc, arith, lit≤, All, slice_get}
+use Rattle.std.proofs.Common.{◌≡◌, ◌∙◌, ℕ, ◌+◌, ◌≤◌, List, [], ◌∷◌, ◌++◌, length, take, Some, refl, sym, ap, subst, append_assoc, lit≤, slice_get}
 use Rattle.std.proofs.lemmas.List.Elements.{All-nil}
 use Rattle.std.proofs.lemmas.Option.{get_or_from_slice_get, slice_get_within}
 use Rattle.class_input.specs.Grammar.{IsU16, Each}
 use Rattle.class_grammar.specs.declared.entry.Entry.{Entry}
-use Rattle.class_grammar.specs.declared.entry.Entry.TheVariants.{Utf8, Class, Method, NameAndType}
+use Rattle.class_grammar.specs.declared.entry.Entry.TheVariants.{Utf8}
 use Rattle.class_grammar.specs.Pool.{Pool, tag_of, IsTextOf, IsBody, IsEntry, Refers, IsPool}
 use Rattle.class_writing.specs.Writing.{IsWritable, IsWell, Puts, Writes}
 use Rattle.class_writing.proofs.Pieces.{Two, then_puts, puts_as, plain_writes, rows_none, rows_more, rows_all}

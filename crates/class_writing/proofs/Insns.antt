@@ -1,9 +1,9 @@
 -- The bytes that are written for an instruction are that instruction.
-use Rattle.std.proofs.Common.{◌≡◌, ◌∙◌, ℕ, zero, suc, ◌+◌, ◌-◌, ◌<◌, ◌≤◌, ◌^◌, Bool, true, false, cond, eqb, List, [], ◌∷◌, ◌++◌, length, Option, Some, None, refl, sym, ap, subst, append_assoc, arith, ℤ, pos, negsuc, SFits, ◌+ℤ◌, ◌-ℤ◌, ◌≤ℤ◌, lit<}
-use Rattle.std.specs.Prelude.{MatchBool, ◌%◌, Result, OnOk}
+use Rattle.std.proofs.Common.{◌≡◌, ◌∙◌, ℕ, ◌+◌, ◌<◌, ◌≤◌, Bool, true, false, eqb, List, [], ◌∷◌, ◌++◌, Some, None, refl, sym, ap, subst, append_assoc, arith, ℤ, pos, negsuc, SFits, ◌-ℤ◌, ◌≤ℤ◌, lit<}
+use Rattle.std.specs.Prelude.{◌%◌, Result, OnOk}
 use Rattle.class_input.specs.Grammar.{IsU16}
 use Rattle.class_writing.specs.declared.stop.EncodeStop.{EncodeStop}
-use Rattle.std.specs.Int.{w8, w16, cast_signed, cast_unsigned, to_be_bytes}
+use Rattle.std.specs.Int.{w8, w16, cast_signed, to_be_bytes}
 use Rattle.std.proofs.lemmas.Bool.{eqb-true}
 use Rattle.std.proofs.lemmas.Grind.{common_steps}
 use Rattle.std.proofs.lemmas.Int.{ints}
@@ -14,8 +14,8 @@ use Rattle.class_model.specs.declared.insn.InvokeKind.TheVariants.{Static}
 use Rattle.class_model.specs.declared.types.MethodRef.{MethodRef}
 use Rattle.class_grammar.specs.Pool.{Pool}
 use Rattle.class_grammar.specs.Code.{plain, IndexesMethod, IsOperands, IsInsn}
-use Rattle.class_writing.specs.Writing.{Extends, Puts, Writes}
-use Rattle.class_writing.proofs.Pieces.{puts_writes, then_writes, writes_as, Both}
+use Rattle.class_writing.specs.Writing.{Puts, Writes}
+use Rattle.class_writing.proofs.Pieces.{puts_writes}
 
 away : (opcode k : ℕ) (insn : Insn) (b : Bool) → eqb opcode k ≡ b → plain k ≡ None → plain opcode ≡ Some insn → b ≡ false
 away opcode k insn true is none some = absurd (let same : opcode ≡ k = eqb-true opcode k is in let e : plain opcode ≡ None = ap plain same ∙ none in cc)

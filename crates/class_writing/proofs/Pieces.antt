@@ -1,9 +1,9 @@
 -- Pieces of bytes, written one after the other.
-use Rattle.std.proofs.Common.{◌≡◌, ◌∙◌, ℕ, zero, suc, ◌+◌, ◌<◌, ◌≤◌, ◌^◌, List, [], ◌∷◌, ◌++◌, length, take, get_or, refl, sym, ap, subst, append_assoc, arith}
+use Rattle.std.proofs.Common.{◌≡◌, ◌∙◌, ℕ, ◌+◌, ◌<◌, ◌≤◌, List, [], ◌∷◌, ◌++◌, length, take, get_or, refl, sym, ap, subst, append_assoc}
 use Rattle.std.proofs.lemmas.List.{append-nil, take_more, take_all}
 use Rattle.class_input.specs.Grammar.{IsU16, Each}
 use Rattle.class_grammar.specs.Pool.{Pool}
-use Rattle.class_writing.specs.Writing.{Extends, IsWell, Adds, Puts, Writes}
+use Rattle.class_writing.specs.Writing.{Adds, Puts, Writes}
 use Rattle.class_writing.proofs.Adding.{Extends-same, Extends-then}
 
 pub puts : (R : List ℕ → Type 0) (old new text : List ℕ) → new ≡ old ++ text → R text → Puts R old new

@@ -1,12 +1,12 @@
 -- What is written for a type or a member is what spells it.
-use Rattle.std.proofs.Common.{◌≡◌, ◌≢◌, ◌∙◌, ℕ, zero, suc, ◌+◌, ◌<◌, Bool, true, false, cond, eqb, List, [], ◌∷◌, ◌++◌, length, refl, sym, ap, subst, arith, All}
-use Rattle.std.specs.Prelude.{MatchBool, replicate}
+use Rattle.std.proofs.Common.{◌≡◌, ◌≢◌, ◌∙◌, ℕ, zero, suc, true, false, eqb, List, [], ◌∷◌, ◌++◌, refl, ap, subst, arith}
+use Rattle.std.specs.Prelude.{replicate}
 use Rattle.std.proofs.lemmas.Grind.{common_steps}
 use Rattle.std.proofs.lemmas.List.Elements.{All-head}
 use Rattle.class_model.specs.declared.types.BaseType.{BaseType}
 use Rattle.class_model.specs.declared.types.BaseType.TheVariants as bases
 use Rattle.class_model.specs.declared.types.JType.{JType}
-use Rattle.class_model.specs.Descriptor.{IsClassName, IsFieldType, SpellsField, field_descriptor, base_descriptor}
+use Rattle.class_model.specs.Descriptor.{IsClassName, IsFieldType, field_descriptor, base_descriptor}
 use Rattle.class_grammar.specs.Built.{IsReference, class_text, class_text_of}
 use Rattle.class_grammar.specs.Names.{is_array_name, class_type, IsClassType}
 

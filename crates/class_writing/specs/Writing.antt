@@ -1,6 +1,5 @@
 -- Writing goes on from a constant pool and from bytes, and both only grow.
-use Rattle.std.specs.Prelude.{◌≡◌, ◌⊎◌, ℕ, ◌+◌, ◌<◌, ◌≤◌, ◌^◌, List, [], ◌∷◌, ◌++◌, length, Some, All}
-use Rattle.class_input.specs.Grammar.{IsU16}
+use Rattle.std.specs.Prelude.{◌≡◌, ◌⊎◌, ℕ, ◌<◌, ◌≤◌, ◌^◌, List, [], ◌∷◌, ◌++◌, length, Some, All}
 use Rattle.class_grammar.specs.declared.entry.Entry.{Entry}
 use Rattle.class_grammar.specs.declared.entry.Entry.TheVariants.{Utf8, Class, Method, NameAndType}
 use Rattle.class_grammar.specs.Pool.{Pool, IsTextOf, Refers, entry_at, names, as_text, as_class_name, as_pair}

@@ -74,11 +74,7 @@ pub fn add_method(
 }
 
 /// The index of a text.
-pub fn put_text(
-    pool: &mut PoolEditor,
-    out: &mut Vec<u8>,
-    text: &Name,
-) -> Result<(), EncodeStop>
+pub fn put_text(pool: &mut PoolEditor, out: &mut Vec<u8>, text: &Name) -> Result<(), EncodeStop>
     requires { IsBuiltText text.now }
     ensures { OnOk result (Writes (λ r bytes. grammar.Indexes grammar.as_text r bytes text.now) pool.old pool.new out.old.items out.new.items) }
 {
@@ -88,11 +84,7 @@ pub fn put_text(
 }
 
 /// The index of a class, by its name.
-pub fn put_class(
-    pool: &mut PoolEditor,
-    out: &mut Vec<u8>,
-    name: &Name,
-) -> Result<(), EncodeStop>
+pub fn put_class(pool: &mut PoolEditor, out: &mut Vec<u8>, name: &Name) -> Result<(), EncodeStop>
     requires { IsBuiltText name.now }
     ensures { OnOk result (Writes (λ r bytes. grammar.Indexes (grammar.as_class_name r) r bytes name.now) pool.old pool.new out.old.items out.new.items) }
 {

@@ -22,7 +22,6 @@ pub struct PoolEditor {
 impl Model for PoolEditor {
     ghost use Rattle.std.specs.Prelude.{List};
     ghost use Rattle.class_grammar.specs.declared.entry.Entry.{Entry};
-
     ghost use Rattle.std.specs.Prelude.{length, ◌≤◌};
 
     ghost Value = { List Entry };

@@ -3,9 +3,8 @@
 
 use outside_io::{DirFolder, StdSink, StdSource};
 use phosphor_top::phosphor;
-use std::env;
-use std::io;
 use std::process::ExitCode;
+use std::{env, io};
 
 /// The words behind the program's name.
 fn words(rt: &HostRuntime) -> io::Result<Vec<String>> {

@@ -1,4 +1,3 @@
-use Rattle.std.proofs.Common.{◌≡◌}
 use Rattle.class_codec.proofs.decode.decode_class.Goals as goal
 
 pub returns-in-Err-Bad-clause-only : goal.returns-in-Err-Bad-clause-only

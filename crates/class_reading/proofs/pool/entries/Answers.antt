@@ -1,4 +1,4 @@
-use Rattle.std.proofs.Common.{rules, ◌≡◌, ◌<◌, ◌^◌, ◌++◌, ◌∷◌, [], sym, subst, All, List}
+use Rattle.std.proofs.Common.{◌<◌, ◌^◌, []}
 use Rattle.std.proofs.lemmas.List.Elements.{All-push}
 use Rattle.class_input.specs.Reading.{each, one_more, seen}
 use Rattle.class_input.proofs.Loops.{many_goes_on}

@@ -1,12 +1,11 @@
-use Rattle.std.proofs.Common.{◌≡◌, ◌++◌, ◌∙◌, List, ℕ, [], ap, subst, sym}
+use Rattle.std.proofs.Common.{◌++◌, ◌∙◌, List, ℕ, [], ap, subst, sym}
 use Rattle.class_input.specs.Grammar.{IsU32}
 use Rattle.class_grammar.specs.Pool.{Pool}
 use Rattle.class_grammar.specs.ClassBytes.{IsClassBody, ClassBytes}
-use Rattle.class_writing.specs.Writing.{IsWell, Puts, Writes}
+use Rattle.class_writing.specs.Writing.{Puts, Writes}
 use Rattle.class_writing.proofs.Pieces.{then_puts}
 use Rattle.class_writing.proofs.Codes.{copied}
 use Rattle.class_writing.proofs.Classes.{file_is}
-use Rattle.class_writing.proofs.Files.{nothing_well}
 use Rattle.class_writing.proofs.class.write_class.Goals as goal
 
 pub returns : goal.returns

@@ -1,7 +1,6 @@
-use Rattle.std.proofs.Common.{◌≡◌, ◌∷◌, [], ap, Option}
+use Rattle.std.proofs.Common.{◌∷◌, [], ap}
 use Rattle.std.specs.Option.{option_to_list}
-use Rattle.class_model.specs.declared.class.CodeDef.{CodeDef}
-use Rattle.class_writing.proofs.Codes.{no_attribute_writes, one_attribute_writes, at_code}
+use Rattle.class_writing.proofs.Codes.{one_attribute_writes, at_code}
 use Rattle.class_writing.proofs.code.put_attributes.Goals as goal
 
 pub returns-in_ok-put_code_attribute-in-Some : goal.returns-in_ok-put_code_attribute-in-Some

@@ -1,4 +1,4 @@
-use Rattle.std.proofs.Common.{◌≡◌, ◌<◌, ◌≤◌, ◌++◌, length, List, ℕ, [], ap, subst, sym, ◌∙◌, arith}
+use Rattle.std.proofs.Common.{◌≡◌, ◌++◌, length, List, ℕ, [], ap, subst, ◌∙◌, arith}
 use Rattle.class_input.specs.Grammar.{IsU32}
 use Rattle.class_grammar.specs.Code.{code_name, IsCode}
 use Rattle.class_writing.specs.Writing.{Adds, Puts, Writes, TextClaim}

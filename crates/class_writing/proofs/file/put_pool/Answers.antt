@@ -1,5 +1,5 @@
 use Rattle.std.proofs.Common.{arith}
-use Rattle.class_writing.proofs.Files.{entries_none, entries_more, pool_puts, writable_at}
+use Rattle.class_writing.proofs.Files.{entries_more, pool_puts}
 use Rattle.class_writing.proofs.file.put_pool.Goals as goal
 
 pub loop-place-preserved : goal.loop-place-preserved

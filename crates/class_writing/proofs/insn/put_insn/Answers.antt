@@ -1,6 +1,5 @@
-use Rattle.std.proofs.Common.{rules, ◌≡◌, ◌∙◌, ap, None, Option, refl, SFits, w32}
+use Rattle.std.proofs.Common.{rules, ◌∙◌, ap, None, Option, refl, SFits, w32}
 use Rattle.std.proofs.lemmas.Int.{to_z-of_z}
-use Rattle.class_model.specs.declared.insn.Insn.{Insn}
 use Rattle.class_model.specs.declared.insn.Insn.TheVariants.{Load, Store, Stack, Bin, Return, Invoke}
 use Rattle.class_model.specs.declared.insn.Kind.{Kind}
 use Rattle.class_model.specs.declared.insn.Kind.TheVariants as kinds

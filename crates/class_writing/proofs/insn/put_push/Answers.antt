@@ -1,4 +1,4 @@
-use Rattle.std.proofs.Common.{◌≡◌, arith, pos, ◌-ℤ◌, ◌+ℤ◌, ◌≤ℤ◌, negsuc, SFits, w8, w16, w32, to_z, of_z}
+use Rattle.std.proofs.Common.{◌≡◌, arith, SFits, w8, w16, w32, to_z, of_z}
 use Rattle.std.proofs.lemmas.Int.{ints, to_z-of_z}
 use Rattle.class_model.specs.declared.insn.Insn.TheVariants.{PushInt}
 use Rattle.class_writing.proofs.Insns.{plain_push, byte_push_writes, short_push_writes, byte_fits, short_fits}

@@ -1,4 +1,4 @@
-use Rattle.std.proofs.Common.{◌≡◌, List, ℕ, subst, sym}
+use Rattle.std.proofs.Common.{List, ℕ, subst, sym}
 use Rattle.class_grammar.specs.Names.{IsClassType}
 use Rattle.class_writing.proofs.Adding.{adds_method}
 use Rattle.class_writing.proofs.Spelling.{class_spelled}

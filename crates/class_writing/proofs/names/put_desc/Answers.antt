@@ -1,5 +1,4 @@
-use Rattle.std.proofs.Common.{List, ℕ}
-use Rattle.class_grammar.specs.Pool.{Pool, as_text, Indexes}
+use Rattle.class_grammar.specs.Pool.{as_text, Indexes}
 use Rattle.class_grammar.specs.Names.{IndexesDesc}
 use Rattle.class_writing.proofs.Pieces.{writes_as}
 use Rattle.class_writing.proofs.names.put_desc.Goals as goal

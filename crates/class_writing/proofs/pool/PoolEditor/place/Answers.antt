@@ -1,4 +1,4 @@
-use Rattle.std.proofs.Common.{◌∙◌, refl, arith}
+use Rattle.std.proofs.Common.{◌∙◌, refl}
 use Rattle.class_writing.proofs.Entries.{added_by}
 use Rattle.class_writing.proofs.pool.PoolEditor.place.Goals as goal
 
