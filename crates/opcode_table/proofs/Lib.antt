@@ -1,0 +1,10 @@
+pub mod Runs
+pub mod Tables
+pub mod Refusals
+pub mod FieldLaws
+pub mod Keys
+pub mod Laws
+pub mod Formed
+pub mod Written
+pub mod Spelled
+pub mod SpelledSwitches
