@@ -1,0 +1,4 @@
+pub mod Bytes
+pub mod EntryLaws
+pub mod PoolLaws
+pub mod EditorLaws
