@@ -1,0 +1,9 @@
+pub mod Laws
+pub mod TypeLaws
+pub mod FrameLaws
+pub mod Loops
+pub mod MarkLoops
+pub mod ExpandLoops
+pub mod TableLaws
+pub mod SpellingLaws
+pub mod MarkLaws
