@@ -4,3 +4,4 @@ pub mod Names
 pub mod Code
 pub mod ClassBytes
 pub mod Built
+pub mod Sizes
