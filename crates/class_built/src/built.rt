@@ -106,7 +106,7 @@ fn is_built_insn(alloc: Global, insn: &Insn) -> Result<bool, AllocError>
 {
     match insn {
         Insn::PushInt(number) => Ok(-32_768 <= *number && *number <= 32_767),
-        Insn::Load(Kind::Int, slot) | Insn::Store(Kind::Int, slot) => Ok(*slot < 256),
+        Insn::Load(Kind::Int, _) | Insn::Store(Kind::Int, _) => Ok(true),
         Insn::Stack(StackOp::Pop) | Insn::Return(None) => Ok(true),
         Insn::Bin(Width::Int, BinOp::Add | BinOp::And | BinOp::Or | BinOp::Xor) => Ok(true),
         Insn::Invoke(InvokeKind::Static, method) => is_built_method_ref(alloc, method),

@@ -148,11 +148,12 @@ fn a_class(rt: HostRuntime) -> Result<(), Fail> {
 #[test]
 fn spellings(rt: HostRuntime) -> Result<(), Fail> {
     let long = [
-        17, 255, 255, 16, 5, 17, 0, 6, 17, 255, 127, 17, 1, 0, 21, 3, 21, 4, 54, 0, 54, 255, 87,
-        126, 128, 130, 177,
+        17, 255, 255, 16, 5, 17, 0, 6, 17, 255, 127, 17, 1, 0, 21, 3, 21, 4, 54, 0, 54, 255, 196,
+        21, 0, 3, 196, 54, 0, 255, 196, 21, 1, 0, 196, 54, 255, 255, 87, 126, 128, 130, 177,
     ];
     let short = [
-        2, 8, 16, 6, 17, 255, 127, 17, 1, 0, 29, 21, 4, 59, 54, 255, 87, 126, 128, 130, 177,
+        2, 8, 16, 6, 17, 255, 127, 17, 1, 0, 29, 21, 4, 59, 54, 255, 29, 54, 255, 196, 21, 1, 0,
+        196, 54, 255, 255, 87, 126, 128, 130, 177,
     ];
     let read = decoded(rt.alloc(), &file(rt.alloc(), 18, &[], 1, &long)?)?;
     let written = encode_class(rt.alloc(), &read).ok().ok_or("no bytes")?;
@@ -178,13 +179,15 @@ fn refused(rt: HostRuntime) -> Result<(), Fail> {
     }
     bytes.push(0)?;
     assert!(rt; is_refused(rt.alloc(), &bytes), "a byte more");
-    let rows: [(&str, u8, &[u8], u8, &[u8]); 6] = [
+    let rows: [(&str, u8, &[u8], u8, &[u8]); 8] = [
         ("a Long entry", 20, &[5, 0, 0, 0, 0, 0, 0, 0, 1], 1, &SUM),
         ("a text with NUL", 19, &[1, 0, 1, 0], 1, &SUM),
         ("a name that is no text", 19, &[7, 0, 2], 1, &SUM),
         ("a second Code", 18, &[], 2, &SUM),
         ("no code", 18, &[], 1, &[]),
         ("an opcode that is not read yet", 18, &[], 1, &[0, 177]),
+        ("a wide iinc", 18, &[], 1, &[196, 132, 0, 1, 0, 1, 177]),
+        ("a wide iload cut off", 18, &[], 1, &[196, 21, 1]),
     ];
     for (what, count, more, codes, insns) in rows {
         let bytes = file(rt.alloc(), count, more, codes, insns)?;

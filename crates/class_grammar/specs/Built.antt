@@ -1,5 +1,5 @@
 -- The classes that can be written so far, sizes aside: those of the forms that are read.
-use Rattle.std.specs.Prelude.{◌≡◌, ℕ, zero, suc, ◌<◌, false, List, [], None, All, IfSome, ℤ, pos, negsuc, ◌≤ℤ◌}
+use Rattle.std.specs.Prelude.{◌≡◌, ℕ, zero, suc, false, List, [], None, All, IfSome, ℤ, pos, negsuc, ◌≤ℤ◌}
 use Rattle.class_model.specs.declared.class.FieldDef.{FieldDef}
 use Rattle.class_model.specs.declared.class.MethodDef.{MethodDef}
 use Rattle.class_model.specs.declared.class.CodeDef.{CodeDef}
@@ -70,8 +70,8 @@ IsBuiltOp _ = ⊥
 
 abbrev pub IsBuiltInsn : Insn → Type 0
 IsBuiltInsn (PushInt n) = IsShort n
-IsBuiltInsn (Load kind slot) = (kind ≡ kinds.Int) × (slot < 256)
-IsBuiltInsn (Store kind slot) = (kind ≡ kinds.Int) × (slot < 256)
+IsBuiltInsn (Load kind slot) = kind ≡ kinds.Int
+IsBuiltInsn (Store kind slot) = kind ≡ kinds.Int
 IsBuiltInsn (Stack op) = op ≡ Pop
 IsBuiltInsn (Bin width op) = (width ≡ widths.Int) × IsBuiltOp op
 IsBuiltInsn (Return kind) = kind ≡ None

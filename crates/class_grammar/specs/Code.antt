@@ -1,5 +1,5 @@
 -- Instructions (JVMS 6.5) and the Code attribute (4.7.3), as far as they are read.
-use Rattle.std.specs.Prelude.{◌≡◌, ℕ, ◌-◌, ◌<◌, ◌≤◌, ◌==◌, ◌&&◌, nat_le, pos, ◌-ℤ◌, List, [], ◌∷◌, length, Option, Some, None, Bool, MatchBool, if◌then◌else◌}
+use Rattle.std.specs.Prelude.{◌≡◌, ℕ, ◌-◌, ◌<◌, ◌≤◌, ◌==◌, ◌&&◌, nat_le, pos, ◌-ℤ◌, List, [], ◌∷◌, ◌++◌, length, Option, Some, None, Bool, MatchBool, if◌then◌else◌}
 use Rattle.std.specs.Int.{w8, w16, cast_signed}
 use Rattle.class_input.specs.Grammar.{IsU8, IsU16, IsU32, Each}
 use Rattle.class_model.specs.declared.class.CodeDef.{CodeDef}
@@ -37,7 +37,17 @@ plain opcode =
 abbrev pub IndexesMethod : Pool → List ℕ → MethodRef → Type 0
 IndexesMethod p text m = (k : ℕ) × IsU16 text k × NamesMethod p k m
 
--- what stands behind an opcode: bipush, sipush, iload, istore, invokestatic, and those that stand alone
+-- what stands behind the opcode of a local in its wide form: iload, istore
+abbrev pub IsWideLocal : ℕ → List ℕ → Insn → Type 0
+IsWideLocal opcode text insn =
+    MatchBool (opcode == 21) ((n : ℕ) × IsU16 text n × (Load kinds.Int n ≡ insn))
+    (MatchBool (opcode == 54) ((n : ℕ) × IsU16 text n × (Store kinds.Int n ≡ insn)) ⊥)
+
+-- what stands behind wide: an opcode, and the local in two bytes
+abbrev pub IsWide : List ℕ → Insn → Type 0
+IsWide text insn = (opcode : ℕ) × (first local : List ℕ) × (text ≡ first ++ local) × IsU8 first opcode × IsWideLocal opcode local insn
+
+-- what stands behind an opcode: bipush, sipush, iload, istore, invokestatic, wide, and those that stand alone
 abbrev pub IsOperands : Pool → ℕ → List ℕ → Insn → Type 0
 IsOperands p opcode text insn =
     MatchBool (opcode == 16) ((n : ℕ) × IsU8 text n × (PushInt (cast_signed w8 n) ≡ insn))
@@ -45,7 +55,8 @@ IsOperands p opcode text insn =
     (MatchBool (opcode == 21) ((n : ℕ) × IsU8 text n × (Load kinds.Int n ≡ insn))
     (MatchBool (opcode == 54) ((n : ℕ) × IsU8 text n × (Store kinds.Int n ≡ insn))
     (MatchBool (opcode == 184) ((m : MethodRef) × IndexesMethod p text m × (Invoke Static m ≡ insn))
-    ((text ≡ []) × (plain opcode ≡ Some insn))))))
+    (MatchBool (opcode == 196) (IsWide text insn)
+    ((text ≡ []) × (plain opcode ≡ Some insn)))))))
 
 pub record IsInsn (p : Pool) (text : List ℕ) (insn : Insn) : Type 0 where
   pub opcode : ℕ

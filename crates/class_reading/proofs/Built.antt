@@ -31,7 +31,7 @@ use Rattle.class_grammar.specs.declared.entry.Entry.{Entry}
 use Rattle.class_grammar.specs.declared.entry.Entry.TheVariants.{Utf8, Class, Method, NameAndType}
 use Rattle.class_grammar.specs.Pool.{Pool, IsTextOf, IsEntry, entry_at, names, as_text, as_class_name, MayIndex}
 use Rattle.class_grammar.specs.Names.{is_array_name, class_type, NamesMethod}
-use Rattle.class_grammar.specs.Code.{within_family, plain, IsOperands, IsInsn, IsCode, IsCodeAttribute}
+use Rattle.class_grammar.specs.Code.{within_family, plain, IsWideLocal, IsOperands, IsInsn, IsCode, IsCodeAttribute}
 use Rattle.class_grammar.specs.ClassBytes.{IsField, IsMethod, ClassBytes}
 use Rattle.class_grammar.specs.Built.{IsBuiltText, IsBuiltType, IsBuiltDesc, IsReference, class_text_of, IsBuiltMethodRef, IsShort, IsBuiltInsn, IsBuiltCode, IsBuiltField, IsBuiltMethod, IsBuilt}
 use Rattle.class_reading.proofs.StepLaws.{split}
@@ -172,9 +172,9 @@ plain_built opcode insn h =
     elim (picked (within_family 2 8 opcode) (PushInt (pos opcode -ℤ pos 3)) _ insn h) [
       | inl a ↦ built_as _ insn a.1 (family_short opcode (at_most 2 8 opcode a.0))
       | inr h1 ↦ elim (picked (within_family 26 29 opcode) (Load kinds.Int (opcode - 26)) _ insn h1) [
-        | inl a ↦ built_as _ insn a.1 (refl, let most = at_most 26 29 opcode a.0 in omega arith)
+        | inl a ↦ built_as (Load kinds.Int (opcode - 26)) insn a.1 refl
         | inr h2 ↦ elim (picked (within_family 59 62 opcode) (Store kinds.Int (opcode - 59)) _ insn h2) [
-          | inl a ↦ built_as _ insn a.1 (refl, let most = at_most 59 62 opcode a.0 in omega arith)
+          | inl a ↦ built_as (Store kinds.Int (opcode - 59)) insn a.1 refl
           | inr h3 ↦ elim (picked (eqb opcode 87) (Stack Pop) _ insn h3) [
             | inl a ↦ built_as (Stack Pop) insn a.1 refl
             | inr h4 ↦ elim (picked (eqb opcode 96) (Bin widths.Int Add) _ insn h4) [
@@ -198,6 +198,16 @@ plain_built opcode insn h =
       ]
     ]
 
+wide_built : (opcode : ℕ) (text : List ℕ) (insn : Insn) → IsWideLocal opcode text insn → IsBuiltInsn insn
+wide_built opcode text insn h =
+    elim (split (eqb opcode 21) h) [
+      | inl a ↦ built_as (Load kinds.Int a.1.0) insn a.1.2 refl
+      | inr h54 ↦ elim (split (eqb opcode 54) h54.1) [
+        | inl a ↦ built_as (Store kinds.Int a.1.0) insn a.1.2 refl
+        | inr none ↦ absurd none.1
+      ]
+    ]
+
 operands_built : (p : Pool) (opcode : ℕ) (text : List ℕ) (insn : Insn) → All HasText p → IsOperands p opcode text insn → IsBuiltInsn insn
 operands_built p opcode text insn all h =
     elim (split (eqb opcode 16) h) [
@@ -205,12 +215,15 @@ operands_built p opcode text insn all h =
       | inr h17 ↦ elim (split (eqb opcode 17) h17.1) [
         | inl a ↦ built_as (PushInt (cast_signed w16 a.1.0)) insn a.1.2 (two_short a.1.0 a.1.1.0)
         | inr h21 ↦ elim (split (eqb opcode 21) h21.1) [
-          | inl a ↦ built_as (Load kinds.Int a.1.0) insn a.1.2 (refl, a.1.1.0)
+          | inl a ↦ built_as (Load kinds.Int a.1.0) insn a.1.2 refl
           | inr h54 ↦ elim (split (eqb opcode 54) h54.1) [
-            | inl a ↦ built_as (Store kinds.Int a.1.0) insn a.1.2 (refl, a.1.1.0)
+            | inl a ↦ built_as (Store kinds.Int a.1.0) insn a.1.2 refl
             | inr h184 ↦ elim (split (eqb opcode 184) h184.1) [
               | inl a ↦ built_as (Invoke Static a.1.0) insn a.1.2 (refl, method_built p a.1.1.0 a.1.0 all a.1.1.2)
-              | inr other ↦ plain_built opcode insn other.1.1
+              | inr h196 ↦ elim (split (eqb opcode 196) h196.1) [
+                | inl a ↦ wide_built a.1.0 a.1.2 insn a.1.5
+                | inr other ↦ plain_built opcode insn other.1.1
+              ]
             ]
           ]
         ]

@@ -17,10 +17,10 @@ use Rattle.class_model.specs.declared.insn.Insn.TheVariants.{PushInt, Load, Stor
 use Rattle.class_model.specs.declared.insn.Kind.TheVariants as kinds
 use Rattle.class_model.specs.declared.insn.InvokeKind.TheVariants.{Static}
 use Rattle.class_grammar.specs.Pool.{Pool}
-use Rattle.class_grammar.specs.Code.{plain, IndexesMethod, IsOperands, IsInsn, IsCode}
+use Rattle.class_grammar.specs.Code.{plain, IndexesMethod, IsWideLocal, IsWide, IsOperands, IsInsn, IsCode}
 use Rattle.class_reading.specs.Steps.{nothing, filling}
 use Rattle.class_reading.specs.NameReading.{method_index}
-use Rattle.class_reading.specs.CodeReading.{alone, operands, insn, fit_length, code_length, code, code_content}
+use Rattle.class_reading.specs.CodeReading.{alone, wide_local, wide, operands, insn, fit_length, code_length, code, code_content}
 use Rattle.class_reading.proofs.StepLaws.{front_alone, nothing_exact, HasBytes, filling_exact}
 use Rattle.class_reading.proofs.NameLaws.{method_index_exact}
 
@@ -41,11 +41,21 @@ alone_exact : (at : ℕ) (o : Option Insn) → Exact (AloneR o) (alone at o)
 alone_exact at None = refused_exact (AloneR None) at NotBuilt (λ text insn h. absurd (let e = h.1 in cc))
 alone_exact at (Some i) = Exact-same (IsDone i) (AloneR (Some i)) (done i) (λ text insn h. (h.0, ap (λ (z : Insn). Some z) h.1)) (λ text insn h. (h.0, let e = h.1 in cc)) (done_exact i)
 
+wide_exact : Exact IsWide wide
+unfolding wide
+wide_exact =
+    here_exact IsWide (λ at. number w8 >>= wide_local at) (λ at.
+    then_exact IsU8 IsWideLocal (number w8) (wide_local at) u8_exact (λ opcode.
+    let none = refused_exact (λ text insn. ⊥) at NotBuilt (λ text insn h. h) in
+    let store = if_exact (eqb opcode 54) _ _ _ _ (mapped_exact IsU16 (number w16) (λ n. Store kinds.Int n) u16_exact) none in
+    if_exact (eqb opcode 21) _ _ _ _ (mapped_exact IsU16 (number w16) (λ n. Load kinds.Int n) u16_exact) store))
+
 operands_exact : (p : Pool) (at opcode : ℕ) → Exact (IsOperands p opcode) (operands p at opcode)
 unfolding operands
 operands_exact p at opcode =
     let last = alone_exact at (plain opcode) in
-    let r184 = if_exact (eqb opcode 184) _ _ _ _ (mapped_exact (IndexesMethod p) (method_index p) (λ m. Invoke Static m) (method_index_exact p)) last in
+    let r196 = if_exact (eqb opcode 196) _ _ _ _ wide_exact last in
+    let r184 = if_exact (eqb opcode 184) _ _ _ _ (mapped_exact (IndexesMethod p) (method_index p) (λ m. Invoke Static m) (method_index_exact p)) r196 in
     let r54 = if_exact (eqb opcode 54) _ _ _ _ (mapped_exact IsU8 (number w8) (λ n. Store kinds.Int n) u8_exact) r184 in
     let r21 = if_exact (eqb opcode 21) _ _ _ _ (mapped_exact IsU8 (number w8) (λ n. Load kinds.Int n) u8_exact) r54 in
     let r17 = if_exact (eqb opcode 17) _ _ _ _ (mapped_exact IsU16 (number w16) (λ n. PushInt (cast_signed w16 n)) u16_exact) r21 in

@@ -17,6 +17,24 @@ abbrev pub alone : ℕ → Option Insn → Reading Insn
 alone at None = refused at NotBuilt
 alone at (Some insn) = done insn
 
+-- a local behind its opcode in the wide form: iload, istore
+abbrev pub wide_local : ℕ → ℕ → Reading Insn
+wide_local at opcode =
+    if opcode == 21 then (do
+      n ← number w16
+      done (Load kinds.Int n))
+    else if opcode == 54 then (do
+      n ← number w16
+      done (Store kinds.Int n))
+    else refused at NotBuilt
+
+-- what stands behind wide
+unfoldable pub wide : Reading Insn
+wide = do
+  at ← here
+  opcode ← number w8
+  wide_local at opcode
+
 -- what stands behind an opcode
 unfoldable pub operands : Pool → ℕ → ℕ → Reading Insn
 operands p at opcode =
@@ -35,6 +53,7 @@ operands p at opcode =
     else if opcode == 184 then (do
       m ← method_index p
       done (Invoke Static m))
+    else if opcode == 196 then wide
     else alone at (plain opcode)
 
 unfoldable pub insn : Pool → Reading Insn

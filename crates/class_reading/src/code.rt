@@ -34,6 +34,22 @@ fn plain(opcode: u8) -> Option<Insn>
     }
 }
 
+/// `iload` or `istore` in the wide form (JVMS 6.5.wide).
+#[tactic(auto, unfolding(crate::specs::CodeReading::wide))]
+fn wide(input: &mut Input) -> Result<Insn, BadClass>
+    ensures { Gives result input.new (reading.wide (seen input.old)) }
+{
+    let place = input.at;
+    match input.u8()? {
+        21 => Ok(Insn::Load(Kind::Int, input.u16()?)),
+        54 => Ok(Insn::Store(Kind::Int, input.u16()?)),
+        _ => Err(BadClass::Bad {
+            place,
+            kind: BadKind::NotBuilt,
+        }),
+    }
+}
+
 /// An instruction, with its opcode before it.
 #[tactic(auto, unfolding(crate::specs::CodeReading::insn, crate::specs::CodeReading::operands))]
 fn insn(alloc: Global, pool: &[Placed], input: &mut Input) -> Result<Insn, BadClass>
@@ -47,6 +63,7 @@ fn insn(alloc: Global, pool: &[Placed], input: &mut Input) -> Result<Insn, BadCl
         21 => Ok(Insn::Load(Kind::Int, u16::from(input.u8()?))),
         54 => Ok(Insn::Store(Kind::Int, u16::from(input.u8()?))),
         184 => Ok(Insn::Invoke(InvokeKind::Static, method_index(alloc, pool, input)?)),
+        196 => wide(input),
         _ => plain(opcode).ok_or(BadClass::Bad {
             place,
             kind: BadKind::NotBuilt,

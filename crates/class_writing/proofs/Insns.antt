@@ -13,7 +13,7 @@ use Rattle.class_model.specs.declared.insn.Kind.TheVariants as kinds
 use Rattle.class_model.specs.declared.insn.InvokeKind.TheVariants.{Static}
 use Rattle.class_model.specs.declared.types.MethodRef.{MethodRef}
 use Rattle.class_grammar.specs.Pool.{Pool}
-use Rattle.class_grammar.specs.Code.{plain, IndexesMethod, IsOperands, IsInsn}
+use Rattle.class_grammar.specs.Code.{plain, IndexesMethod, IsWideLocal, IsOperands, IsInsn}
 use Rattle.class_writing.specs.Writing.{Puts, Writes}
 use Rattle.class_writing.proofs.Pieces.{puts_writes}
 
@@ -41,6 +41,10 @@ no_plain_184 : plain 184 ≡ None
 unfolding plain
 no_plain_184 = refl
 
+no_plain_196 : plain 196 ≡ None
+unfolding plain
+no_plain_196 = refl
+
 alone_operands : (p : Pool) (opcode : ℕ) (insn : Insn) → plain opcode ≡ Some insn → IsOperands p opcode [] insn
 alone_operands p opcode insn h =
     let a = away opcode 16 insn (eqb opcode 16) refl no_plain_16 h in
@@ -48,7 +52,8 @@ alone_operands p opcode insn h =
     let c = away opcode 21 insn (eqb opcode 21) refl no_plain_21 h in
     let d = away opcode 54 insn (eqb opcode 54) refl no_plain_54 h in
     let e = away opcode 184 insn (eqb opcode 184) refl no_plain_184 h in
-    rw (a, b, c, d, e) (refl, h)
+    let f = away opcode 196 insn (eqb opcode 196) refl no_plain_196 h in
+    rw (a, b, c, d, e, f) (refl, h)
 
 pub alone_writes : (p : Pool) (opcode : ℕ) (insn : Insn) (old new : List ℕ) → opcode < 256 → plain opcode ≡ Some insn → new ≡ old ++ opcode ∷ [] → Writes (λ r text. IsInsn r text insn) p p old new
 alone_writes p opcode insn old new byte h added =
@@ -81,6 +86,19 @@ load_writes p slot old new h w = spelled (λ r text. IsInsn r text (Load kinds.I
 
 pub store_writes : (p : Pool) (slot : ℕ) (old new : List ℕ) → slot < 256 → Puts (λ t. t ≡ 54 ∷ slot ∷ []) old new → Writes (λ r text. IsInsn r text (Store kinds.Int slot)) p p old new
 store_writes p slot old new h w = spelled (λ r text. IsInsn r text (Store kinds.Int slot)) p old new (54 ∷ slot ∷ []) w (λ r. record { opcode = 54; operands = slot ∷ []; spelled = refl; byte = lit< tt; operands_are = (slot, (h, byte_text slot h), refl) })
+
+-- the wide form
+pub wide_puts : (opcode : ℕ) (slot : ℕ) (old mid new : List ℕ) → Puts (λ t. t ≡ 196 ∷ opcode ∷ []) old mid → new ≡ mid ++ to_be_bytes w16 slot → Puts (λ t. t ≡ 196 ∷ opcode ∷ to_be_bytes w16 slot) old new
+wide_puts opcode slot old mid new w added = record {
+  text = w.text ++ to_be_bytes w16 slot;
+  added = added ∙ ap (λ (z : List ℕ). z ++ to_be_bytes w16 slot) w.added ∙ append_assoc old w.text (to_be_bytes w16 slot);
+  stands = ap (λ (z : List ℕ). z ++ to_be_bytes w16 slot) w.stands;
+}
+
+pub wide_writes : (p : Pool) (opcode slot : ℕ) (insn : Insn) (old new : List ℕ) → opcode < 256 → IsWideLocal opcode (to_be_bytes w16 slot) insn → Puts (λ t. t ≡ 196 ∷ opcode ∷ to_be_bytes w16 slot) old new → Writes (λ r text. IsInsn r text insn) p p old new
+wide_writes p opcode slot insn old new byte is w =
+    let local = to_be_bytes w16 slot in
+    spelled (λ r text. IsInsn r text insn) p old new (196 ∷ opcode ∷ local) w (λ r. record { opcode = 196; operands = opcode ∷ local; spelled = refl; byte = lit< tt; operands_are = (opcode, opcode ∷ [], local, refl, (byte, byte_text opcode byte), is) })
 
 pub byte_push_writes : (p : Pool) (n : ℤ) (b : ℕ) (old new : List ℕ) → b < 256 → cast_signed w8 b ≡ n → Puts (λ t. t ≡ 16 ∷ b ∷ []) old new → Writes (λ r text. IsInsn r text (PushInt n)) p p old new
 byte_push_writes p n b old new h is w = spelled (λ r text. IsInsn r text (PushInt n)) p old new (16 ∷ b ∷ []) w (λ r. record { opcode = 16; operands = b ∷ []; spelled = refl; byte = lit< tt; operands_are = (b, (h, byte_text b h), ap (λ (z : ℤ). PushInt z) is) })

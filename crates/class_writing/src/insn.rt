@@ -1,6 +1,7 @@
 //! Writing instructions (JVMS 6.5), each in its shortest spelling.
 
-ghost use Rattle.std.specs.Prelude.{◌≡◌, ◌∷◌, [], ◌<◌, Some, OnOk, length, All};
+ghost use Rattle.std.specs.Prelude.{◌≡◌, ◌∷◌, [], Some, OnOk, All};
+ghost use Rattle.std.specs.Int.{w16, to_be_bytes};
 ghost use Rattle.class_input.specs.Grammar.{Each};
 ghost use Rattle.class_model.specs.declared.insn.Insn.{Insn};
 ghost use Rattle.class_model.specs.declared.insn.Insn.TheVariants as insns;
@@ -53,27 +54,42 @@ fn put_push(out: &mut Vec<u8>, n: i32) -> Result<(), EncodeStop>
     Ok(())
 }
 
-/// `iload`, shorter for the locals 0 to 3.
+/// A local in the wide form, with the opcode that it has in the short one.
+fn put_wide(out: &mut Vec<u8>, opcode: u8, slot: u16) -> Result<(), EncodeStop>
+    ensures { OnOk result (Puts (λ text. text ≡ 196 ∷ opcode ∷ to_be_bytes w16 slot) out.old.items out.new.items) }
+{
+    put_byte(out, 196, opcode)?;
+    out.extend_from_slice(&slot.to_be_bytes())?;
+    Ok(())
+}
+
+/// `iload`: the locals 0 to 3 by their opcodes, those to 255 in one byte, all others in the wide form.
 fn put_load(out: &mut Vec<u8>, slot: u16) -> Result<(), EncodeStop>
-    requires { slot < 256 }
     ensures { (p : Pool) → OnOk result (Writes (λ r text. IsInsn r text (insns.Load kinds.Int slot)) p p out.old.items out.new.items) }
 {
     if slot < 4 {
         return put_alone(out, 26 + slot as u8);
     }
-    put_byte(out, 21, slot as u8)?;
+    if slot < 256 {
+        put_byte(out, 21, slot as u8)?;
+        return Ok(());
+    }
+    put_wide(out, 21, slot)?;
     Ok(())
 }
 
-/// `istore`, shorter for the locals 0 to 3.
+/// `istore`, spelled as `iload` is.
 fn put_store(out: &mut Vec<u8>, slot: u16) -> Result<(), EncodeStop>
-    requires { slot < 256 }
     ensures { (p : Pool) → OnOk result (Writes (λ r text. IsInsn r text (insns.Store kinds.Int slot)) p p out.old.items out.new.items) }
 {
     if slot < 4 {
         return put_alone(out, 59 + slot as u8);
     }
-    put_byte(out, 54, slot as u8)?;
+    if slot < 256 {
+        put_byte(out, 54, slot as u8)?;
+        return Ok(());
+    }
+    put_wide(out, 54, slot)?;
     Ok(())
 }
 

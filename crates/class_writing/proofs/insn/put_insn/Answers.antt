@@ -21,12 +21,12 @@ returns-in-PushInt c =
 pub returns-in-Load : goal.returns-in-Load
 returns-in-Load c =
     let h = rw c.in-Load.is at c.requires in
-    at_insn c.put_load.result _ _ _ _ c.args.insn.now (Load kinds.Int c.in-Load.slot) (c.in-Load.is ∙ ap (λ (k : Kind). Load k c.in-Load.slot) h.0) (c.put_load.ensures c.args.pool.now)
+    at_insn c.put_load.result _ _ _ _ c.args.insn.now (Load kinds.Int c.in-Load.slot) (c.in-Load.is ∙ ap (λ (k : Kind). Load k c.in-Load.slot) h) (c.put_load.ensures c.args.pool.now)
 
 pub returns-in-Store : goal.returns-in-Store
 returns-in-Store c =
     let h = rw c.in-Store.is at c.requires in
-    at_insn c.put_store.result _ _ _ _ c.args.insn.now (Store kinds.Int c.in-Store.slot) (c.in-Store.is ∙ ap (λ (k : Kind). Store k c.in-Store.slot) h.0) (c.put_store.ensures c.args.pool.now)
+    at_insn c.put_store.result _ _ _ _ c.args.insn.now (Store kinds.Int c.in-Store.slot) (c.in-Store.is ∙ ap (λ (k : Kind). Store k c.in-Store.slot) h) (c.put_store.ensures c.args.pool.now)
 
 pub returns-in-Stack : goal.returns-in-Stack
 unfolding plain
