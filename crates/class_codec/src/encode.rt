@@ -1,8 +1,9 @@
 //! Writing a class file.
 
-ghost use Rattle.std.specs.Prelude.{IfOk};
+ghost use Rattle.std.specs.Prelude.{◌≡◌, IfOk, IfErr};
 ghost use Rattle.class_grammar.specs.Built.{IsBuilt};
 ghost use Rattle.class_grammar.specs.ClassBytes.{ClassBytes};
+ghost use Rattle.class_grammar.specs.Sizes.{FitsSizes};
 
 use class_model::ClassDef;
 use class_writing::{EncodeStop, write_class};
@@ -13,7 +14,10 @@ use std::alloc::Global;
 /// entries of the constant pool in the order in which the class needs them, each once.
 pub fn encode_class(alloc: Global, class: &ClassDef) -> Result<Bytes, EncodeStop>
     requires { IsBuilt class.now }
-    ensures { IfOk result (λ b. ClassBytes b class.now) }
+    // What is written is the class.
+    ensures written { IfOk result (λ b. ClassBytes b class.now) }
+    // Where no size of the format is passed, memory alone is refused.
+    ensures fits { FitsSizes class.now → IfErr result (λ stop. stop ≡ EncodeStop.Memory) }
 {
     write_class(alloc, class)
 }

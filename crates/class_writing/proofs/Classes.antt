@@ -1,5 +1,6 @@
 -- The bytes that are written for a class behind its constant pool are that class.
-use Rattle.std.proofs.Common.{◌≡◌, ◌∙◌, ℕ, List, [], length, Option, Some, None, sym, subst}
+use Rattle.std.proofs.Common.{◌≡◌, ◌∙◌, ℕ, List, [], length, Option, Some, None, refl, sym, subst, ◌+◌}
+use Rattle.std.specs.Prelude.{sum_by}
 use Rattle.std.specs.Option.{option_to_list}
 use Rattle.class_input.specs.Grammar.{IsU16, IsU32, Each}
 use Rattle.class_model.specs.declared.class.FieldDef.{FieldDef}
@@ -10,6 +11,7 @@ use Rattle.class_grammar.specs.Pool.{Pool, as_text, as_class_name, Indexes, MayI
 use Rattle.class_grammar.specs.Names.{IndexesType, IndexesDesc}
 use Rattle.class_grammar.specs.Built.{IsBuiltField, IsBuiltMethod, IsBuilt}
 use Rattle.class_grammar.specs.Code.{IsCodeAttribute}
+use Rattle.class_grammar.specs.Sizes.{class_entries, super_entries, field_entries, method_entries}
 use Rattle.class_grammar.specs.ClassBytes.{IsField, IsMethod, IsClassBody, ClassBytes}
 use Rattle.class_writing.specs.Writing.{Puts, Writes}
 use Rattle.class_writing.proofs.Adding.{Extends-same}
@@ -90,6 +92,10 @@ BodyParts class =
     (Both (Number 0)
     (Both (Table IsField class.fields)
     (Both (Table IsMethod class.methods) (Number 0))))))
+
+pub class_entries_are : (class : ClassDef) → class_entries class ≡ 2 + super_entries class.super_name + sum_by field_entries class.fields + sum_by method_entries class.methods
+unfolding class_entries
+class_entries_are class = refl
 
 pub body_writes : (p q : Pool) (class : ClassDef) (old new : List ℕ) → IsBuilt class → Writes (BodyParts class) p q old new → Writes (λ r text. IsClassBody r text class) p q old new
 body_writes p q class old new built w =

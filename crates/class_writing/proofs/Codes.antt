@@ -1,15 +1,18 @@
 -- The bytes that are written for code are that code.
-use Rattle.std.proofs.Common.{◌≡◌, ℕ, ◌<◌, ◌≤◌, List, [], ◌∷◌, ◌++◌, length, Option, refl, sym, subst}
+use Rattle.std.proofs.Common.{◌≡◌, ◌∙◌, ℕ, ◌+◌, ◌<◌, ◌≤◌, List, [], ◌∷◌, ◌++◌, length, Option, refl, sym, ap, subst, arith, length-append}
 use Rattle.std.specs.Option.{option_to_list}
 use Rattle.std.proofs.lemmas.List.{append-nil}
+use Rattle.std.proofs.lemmas.List.Sums.{sum_by-cons}
 use Rattle.class_input.specs.Grammar.{IsU16, IsU32, Each}
 use Rattle.class_model.specs.declared.class.CodeDef.{CodeDef}
-use Rattle.class_grammar.specs.Pieces.{IsTable}
+use Rattle.class_model.specs.declared.insn.Insn.{Insn}
+use Rattle.class_grammar.specs.Pieces.{joined, IsTable}
 use Rattle.class_grammar.specs.Pool.{Pool}
 use Rattle.class_grammar.specs.Built.{IsBuiltCode}
 use Rattle.class_grammar.specs.Code.{code_name, IsInsn, IsCode, IsCodeAttribute}
-use Rattle.class_writing.specs.Writing.{Adds, Puts, Writes, TextClaim}
-use Rattle.class_writing.proofs.Adding.{Extends-then}
+use Rattle.class_grammar.specs.Sizes.{insn_bytes, code_bytes}
+use Rattle.class_writing.specs.Writing.{IsShortest, Adds, Puts, Writes, TextClaim}
+use Rattle.class_writing.proofs.Adding.{Extends-same, Extends-then}
 use Rattle.class_writing.proofs.Pieces.{Two, Both, then_writes, plain_writes, writes_as, then_joined, last_joined}
 
 abbrev pub IsSame : List ℕ → List ℕ → Type 0
@@ -48,15 +51,43 @@ code_of r code bytes text built some most each h =
       lines_are = built.lines;
     }
 
+-- ---- instructions in their shortest spelling
+
+each_insn : (r : Pool) (text : List ℕ) (insns : List Insn) → Each (IsShortest r) text insns → Each (IsInsn r) text insns
+each_insn r text [] h = h
+each_insn r text (insn ∷ insns) h = (h.0, h.1, h.2, h.3.is, each_insn r h.1 insns h.4)
+
+each_size : (r : Pool) (text : List ℕ) (insns : List Insn) → Each (IsShortest r) text insns → length text ≡ code_bytes insns
+unfolding code_bytes
+each_size r text [] h = ap length h
+each_size r text (insn ∷ insns) h = omega (arith, ap length h.2, length-append h.0 h.1, h.3.size, each_size r h.1 insns h.4, sum_by-cons insn_bytes insn insns)
+
+pub written_size : (p q : Pool) (old new : List ℕ) (insns : List Insn) → Writes (λ r text. Each (IsShortest r) text insns) p q old new → length new ≡ length old + code_bytes insns
+written_size p q old new insns w = ap length w.added ∙ length-append old w.text ∙ ap (λ (k : ℕ). length old + k) (each_size q w.text insns (w.stands q (Extends-same q)))
+
+-- ---- code
+
 pub code_writes : (p q : Pool) (code : CodeDef) (bytes old new : List ℕ) → IsBuiltCode code → 0 < length bytes → length bytes ≤ 65535
-    → Writes (λ r text. Each (IsInsn r) text code.insns) p q [] bytes → Puts (CodeParts code bytes) old new → Writes (λ r text. IsCode r text code) p q old new
+    → Writes (λ r text. Each (IsShortest r) text code.insns) p q [] bytes → Puts (CodeParts code bytes) old new → Writes (λ r text. IsCode r text code) p q old new
 code_writes p q code bytes old new built some most w parts = record {
   grows = w.grows;
   well = w.well;
   text = parts.text;
   added = parts.added;
-  stands = λ r ext. code_of r code bytes parts.text built some most (subst (λ (z : List ℕ). Each (IsInsn r) z code.insns) (sym w.added) (w.stands r ext)) parts.stands;
+  stands = λ r ext. code_of r code bytes parts.text built some most (subst (λ (z : List ℕ). Each (IsInsn r) z code.insns) (sym w.added) (each_insn r w.text code.insns (w.stands r ext))) parts.stands;
 }
+
+-- its bytes, so that the length of an attribute is never passed
+code_size : (r : Pool) (text : List ℕ) (code : CodeDef) → IsCode r text code → length text ≤ 65547
+code_size r text code h =
+    let all : length text ≡ length (joined (h.max_stack ∷ h.max_locals ∷ h.code_length ∷ h.insns ∷ h.handlers ∷ h.attributes ∷ [])) = ap length h.spelled in
+    let two : (part : List ℕ) (n : ℕ) → IsU16 part n → length part ≡ 2 = λ part n is. ap length is.1 in
+    let four : length h.code_length ≡ 4 = ap length h.length_is.1 in
+    let parts = simp (length-append {A = ℕ}) at all in
+    omega (arith, two h.max_stack _ h.stack_is, two h.max_locals _ h.locals_are, two h.handlers _ h.no_handler, two h.attributes _ h.no_attribute, h.no_longer)
+
+pub content_size : (p q : Pool) (content : List ℕ) (code : CodeDef) → Writes (λ r text. IsCode r text code) p q [] content → length content ≤ 65547
+content_size p q content code w = subst (λ (z : List ℕ). length z ≤ 65547) (sym w.added) (code_size q w.text code (w.stands q (Extends-same q)))
 
 abbrev pub AttributeParts : ℕ → List ℕ → List ℕ → Type 0
 AttributeParts index content = Two (λ t. IsU16 t index) (Two (λ t. IsU32 t (length content)) (IsSame content))

@@ -1,9 +1,13 @@
 -- Pieces of bytes, written one after the other.
-use Rattle.std.proofs.Common.{◌≡◌, ◌∙◌, ℕ, ◌+◌, ◌<◌, ◌≤◌, List, [], ◌∷◌, ◌++◌, length, take, get_or, refl, sym, ap, subst, append_assoc}
+use Rattle.std.proofs.Common.{◌≡◌, ◌∙◌, ℕ, ◌+◌, ◌<◌, ◌≤◌, List, [], ◌∷◌, ◌++◌, length, take, get_or, refl, sym, ap, subst, append_assoc, arith}
+use Rattle.std.specs.Prelude.{All, sum_by, Result, Ok, Err, IsErrAnd}
 use Rattle.std.proofs.lemmas.List.{append-nil, take_more, take_all}
+use Rattle.std.proofs.lemmas.List.Sums.{sum_by_more, sum_by_more_le}
+use Rattle.class_writing.specs.declared.stop.EncodeStop.{EncodeStop}
+use Rattle.class_writing.specs.declared.stop.EncodeStop.TheVariants.{Memory}
 use Rattle.class_input.specs.Grammar.{IsU16, Each}
 use Rattle.class_grammar.specs.Pool.{Pool}
-use Rattle.class_writing.specs.Writing.{Adds, Puts, Writes}
+use Rattle.class_writing.specs.Writing.{Adds, Puts, Writes, Takes}
 use Rattle.class_writing.proofs.Adding.{Extends-same, Extends-then}
 
 pub puts : (R : List ℕ → Type 0) (old new text : List ℕ) → new ≡ old ++ text → R text → Puts R old new
@@ -82,3 +86,22 @@ rows_more {A} R p q s old mid new xs i x lt is one w =
 
 pub rows_all : {A : Type 0} (R : Pool → List ℕ → A → Type 0) (p q : Pool) (old new : List ℕ) (xs : List A) (i : ℕ) → length xs ≤ i → Writes (λ r text. Each (R r) text (take i xs)) p q old new → Writes (λ r text. Each (R r) text xs) p q old new
 rows_all {A} R p q old new xs i le w = subst (λ (z : List A). Writes (λ r text. Each (R r) text z) p q old new) (take_all i xs le) w
+
+-- ---- a stop of one step is that of the whole
+
+pub stops_with : {A : Type 0} (n : ℕ) (Fits : Type 0) (p q : Pool) (result : Result A EncodeStop) (stop : EncodeStop) → IsErrAnd result (λ e. e ≡ stop) → (Fits → length p + n ≤ 65534 → stop ≡ Memory) → Takes n Fits p q result
+stops_with n Fits p q (Ok a) stop is h = absurd is
+stops_with n Fits p q (Err e) stop is h = λ fits room. is ∙ h fits room
+
+-- ---- entries that row after row takes, of which there were n before, m so far and k behind one row more
+
+pub rows_take : {A : Type 0} (f : A → ℕ) (n m k : ℕ) (xs : List A) (i : ℕ) (x : A) → i < length xs → x ≡ get_or xs i x → m ≤ n + sum_by f (take i xs) → k ≤ m + f x → k ≤ n + sum_by f (take (i + 1) xs)
+rows_take f n m k xs i x lt is so_far one = omega (arith, sum_by_more f xs i x lt, ap f is)
+
+pub rows_taken : {A : Type 0} (f : A → ℕ) (n m : ℕ) (xs : List A) (i : ℕ) → length xs ≤ i → m ≤ n + sum_by f (take i xs) → m ≤ n + sum_by f xs
+rows_taken {A} f n m xs i le h = subst (λ (ys : List A). m ≤ n + sum_by f ys) (take_all i xs le) h
+
+pub row_stops : {A : Type 0} (f : A → ℕ) (Fits : A → Type 0) (n m : ℕ) (xs : List A) (i : ℕ) (x : A) (stop : EncodeStop) → i < length xs → x ≡ get_or xs i x → m ≤ n + sum_by f (take i xs)
+    → (Fits x → m + f x ≤ 65534 → stop ≡ Memory) → All Fits xs → n + sum_by f xs ≤ 65534 → stop ≡ Memory
+row_stops {A} f Fits n m xs i x stop lt is so_far one all room =
+    one (subst (λ (y : A). Fits y) (sym is) (all i x lt)) (omega (arith, sum_by_more_le f xs i x lt, ap f is))

@@ -1,10 +1,15 @@
 -- Writing goes on from a constant pool and from bytes, and both only grow.
-use Rattle.std.specs.Prelude.{◌≡◌, ◌⊎◌, ℕ, ◌<◌, ◌≤◌, ◌^◌, List, [], ◌∷◌, ◌++◌, length, Some, All}
+use Rattle.std.specs.Prelude.{◌≡◌, ◌⊎◌, ℕ, ◌+◌, ◌<◌, ◌≤◌, ◌^◌, List, [], ◌∷◌, ◌++◌, length, Some, All, Result, MatchResult}
 use Rattle.class_grammar.specs.declared.entry.Entry.{Entry}
 use Rattle.class_grammar.specs.declared.entry.Entry.TheVariants.{Utf8, Class, Method, NameAndType}
 use Rattle.class_grammar.specs.Pool.{Pool, IsTextOf, Refers, entry_at, names, as_text, as_class_name, as_pair}
 use Rattle.class_grammar.specs.Names.{NamesMethod}
+use Rattle.class_grammar.specs.Code.{IsInsn}
+use Rattle.class_grammar.specs.Sizes.{insn_bytes}
+use Rattle.class_model.specs.declared.insn.Insn.{Insn}
 use Rattle.class_model.specs.declared.types.MethodRef.{MethodRef}
+use Rattle.class_writing.specs.declared.stop.EncodeStop.{EncodeStop}
+use Rattle.class_writing.specs.declared.stop.EncodeStop.TheVariants.{Memory}
 
 -- a pool that has what another has, at the same indices
 abbrev pub Extends : Pool → Pool → Type 0
@@ -54,6 +59,15 @@ pub record Writes (R : Pool → List ℕ → Type 0) (p q : Pool) (old new : Lis
   pub text : List ℕ
   pub added : new ≡ old ++ text
   pub stands : (r : Pool) → Extends q r → R r text
+
+-- an instruction in its shortest spelling
+pub record IsShortest (p : Pool) (text : List ℕ) (insn : Insn) : Type 0 where
+  pub is : IsInsn p text insn
+  pub size : length text ≡ insn_bytes insn
+
+-- from p to q a pool takes at most n entries more; where it has room for these and what is written fits, memory alone is refused
+abbrev pub Takes : {A : Type 0} → ℕ → Type 0 → Pool → Pool → Result A EncodeStop → Type 0
+Takes n Fits p q result = MatchResult result (λ _. length q ≤ length p + n) (λ stop. Fits → length p + n ≤ 65534 → stop ≡ Memory)
 
 -- what an index can be claimed to stand for
 abbrev pub TextClaim : List ℕ → Pool → ℕ → Type 0

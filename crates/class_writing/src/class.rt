@@ -1,12 +1,13 @@
 //! Writing a class (JVMS 4.1), its fields (4.5) and its methods (4.6).
 
-ghost use Rattle.std.specs.Prelude.{◌≡◌, ◌≤◌, OnOk, IfOk, IfSome, All, length};
+ghost use Rattle.std.specs.Prelude.{◌≡◌, ◌≤◌, OnOk, IfOk, IfErr, IfSome, All, length, sum_by};
 ghost use Rattle.class_input.specs.Grammar.{IsU16, Each};
 ghost use Rattle.class_grammar.specs.Pieces.{IsTable};
 ghost use Rattle.class_grammar.specs.Pool as grammar;
 ghost use Rattle.class_grammar.specs.Built.{IsBuiltText, IsBuiltField, IsBuiltMethod, IsBuilt};
 ghost use Rattle.class_grammar.specs.ClassBytes.{IsField, IsMethod, IsClassBody, ClassBytes};
-ghost use Rattle.class_writing.specs.Writing.{Puts, Writes};
+ghost use Rattle.class_grammar.specs.Sizes.{field_entries, method_entries, super_entries, class_entries, FitsText, FitsField, FitsMethod, FitsSizes};
+ghost use Rattle.class_writing.specs.Writing.{Puts, Writes, Takes};
 
 use crate::bytes::{put_u16, put_u32};
 use crate::code::put_attributes;
@@ -20,7 +21,8 @@ use std::alloc::Global;
 
 /// A count of 16 bits.
 fn put_count(out: &mut Vec<u8>, count: usize) -> Result<(), EncodeStop>
-    ensures { OnOk result (Puts (λ text. IsU16 text count) out.old.items out.new.items) }
+    ensures written { OnOk result (Puts (λ text. IsU16 text count) out.old.items out.new.items) }
+    ensures fits { count ≤ 65535 → IfErr result (λ stop. stop ≡ EncodeStop.Memory) }
 {
     if count > 65535 {
         return Err(EncodeStop::Limit(EncodeKind::Count, count as u64));
@@ -36,7 +38,8 @@ fn put_field(
     field: &FieldDef,
 ) -> Result<(), EncodeStop>
     requires { IsBuiltField field.now }
-    ensures { OnOk result (Writes (λ r text. IsField r text field.now) pool.old pool.new out.old.items out.new.items) }
+    ensures written { OnOk result (Writes (λ r text. IsField r text field.now) pool.old pool.new out.old.items out.new.items) }
+    ensures takes { Takes 2 (FitsField field.now) pool.old pool.new result }
 {
     put_u16(out, field.flags)?;
     put_text(pool, out, &field.name)?;
@@ -52,7 +55,8 @@ fn put_fields(
     fields: &[FieldDef],
 ) -> Result<(), EncodeStop>
     requires { All IsBuiltField fields.now }
-    ensures { OnOk result (Writes (λ r text. Each (IsField r) text fields.now) pool.old pool.new out.old.items out.new.items) }
+    ensures written { OnOk result (Writes (λ r text. Each (IsField r) text fields.now) pool.old pool.new out.old.items out.new.items) }
+    ensures takes { Takes (sum_by field_entries fields.now) (All FitsField fields.now) pool.old pool.new result }
 {
     for field in fields {
         put_field(alloc, pool, out, field)?;
@@ -67,7 +71,8 @@ fn put_method(
     method: &MethodDef,
 ) -> Result<(), EncodeStop>
     requires { IsBuiltMethod method.now }
-    ensures { OnOk result (Writes (λ r text. IsMethod r text method.now) pool.old pool.new out.old.items out.new.items) }
+    ensures written { OnOk result (Writes (λ r text. IsMethod r text method.now) pool.old pool.new out.old.items out.new.items) }
+    ensures takes { Takes (method_entries method.now) (FitsMethod method.now) pool.old pool.new result }
 {
     put_u16(out, method.flags)?;
     put_text(pool, out, &method.name)?;
@@ -83,7 +88,8 @@ fn put_methods(
     methods: &[MethodDef],
 ) -> Result<(), EncodeStop>
     requires { All IsBuiltMethod methods.now }
-    ensures { OnOk result (Writes (λ r text. Each (IsMethod r) text methods.now) pool.old pool.new out.old.items out.new.items) }
+    ensures written { OnOk result (Writes (λ r text. Each (IsMethod r) text methods.now) pool.old pool.new out.old.items out.new.items) }
+    ensures takes { Takes (sum_by method_entries methods.now) (All FitsMethod methods.now) pool.old pool.new result }
 {
     for method in methods {
         put_method(alloc, pool, out, method)?;
@@ -98,7 +104,8 @@ fn put_super(
     name: &Option<Name>,
 ) -> Result<(), EncodeStop>
     requires { IfSome name.now IsBuiltText }
-    ensures { OnOk result (Writes (λ r text. grammar.MayIndex (grammar.as_class_name r) r text name.now) pool.old pool.new out.old.items out.new.items) }
+    ensures written { OnOk result (Writes (λ r text. grammar.MayIndex (grammar.as_class_name r) r text name.now) pool.old pool.new out.old.items out.new.items) }
+    ensures takes { Takes (super_entries name.now) (IfSome name.now FitsText) pool.old pool.new result }
 {
     match name {
         None => {
@@ -120,7 +127,8 @@ fn put_class_body(
     class: &ClassDef,
 ) -> Result<(), EncodeStop>
     requires { IsBuilt class.now }
-    ensures { OnOk result (Writes (λ r text. IsClassBody r text class.now) pool.old pool.new out.old.items out.new.items) }
+    ensures written { OnOk result (Writes (λ r text. IsClassBody r text class.now) pool.old pool.new out.old.items out.new.items) }
+    ensures takes { Takes (class_entries class.now) (FitsSizes class.now) pool.old pool.new result }
 {
     put_u16(out, class.flags)?;
     put_class(pool, out, &class.name)?;
@@ -137,7 +145,8 @@ fn put_class_body(
 /// The bytes of a class file that is this class.
 pub fn write_class(alloc: Global, class: &ClassDef) -> Result<Bytes, EncodeStop>
     requires { IsBuilt class.now }
-    ensures { IfOk result (λ b. ClassBytes b class.now) }
+    ensures written { IfOk result (λ b. ClassBytes b class.now) }
+    ensures fits { FitsSizes class.now → IfErr result (λ stop. stop ≡ EncodeStop.Memory) }
 {
     let mut pool = PoolEditor::new(alloc);
     let mut body = Vec::new(alloc);

@@ -1,12 +1,13 @@
 //! Writing the code of a method (JVMS 4.7.3).
 
-ghost use Rattle.std.specs.Prelude.{◌≡◌, OnOk, IfOk, IfSome};
+ghost use Rattle.std.specs.Prelude.{◌≡◌, ◌+◌, OnOk, IfOk, IfSome, sum_by};
 ghost use Rattle.std.specs.Option.{option_to_list};
 ghost use Rattle.class_grammar.specs.Pieces.{IsTable};
 ghost use Rattle.class_grammar.specs.Built.{IsBuiltCode};
 ghost use Rattle.class_grammar.specs.Code as grammar;
 ghost use Rattle.class_grammar.specs.Code.{IsCode, IsCodeAttribute};
-ghost use Rattle.class_writing.specs.Writing.{Puts, Writes};
+ghost use Rattle.class_grammar.specs.Sizes.{insn_entries, code_entries, FitsCode};
+ghost use Rattle.class_writing.specs.Writing.{Writes, Takes};
 
 use crate::bytes::{put_u16, put_u32};
 use crate::insn::put_insns;
@@ -31,7 +32,8 @@ fn put_code(
     code: &CodeDef,
 ) -> Result<(), EncodeStop>
     requires { IsBuiltCode code.now }
-    ensures { OnOk result (Writes (λ r text. IsCode r text code.now) pool.old pool.new out.old.items out.new.items) }
+    ensures written { OnOk result (Writes (λ r text. IsCode r text code.now) pool.old pool.new out.old.items out.new.items) }
+    ensures takes { Takes (sum_by insn_entries code.now.insns) (FitsCode code.now) pool.old pool.new result }
 {
     let mut insns = Vec::new(alloc);
     put_insns(alloc, pool, &mut insns, code.insns.as_slice())?;
@@ -55,16 +57,14 @@ fn put_code_attribute(
     code: &CodeDef,
 ) -> Result<(), EncodeStop>
     requires { IsBuiltCode code.now }
-    ensures { OnOk result (Writes (λ r text. IsCodeAttribute r text code.now) pool.old pool.new out.old.items out.new.items) }
+    ensures written { OnOk result (Writes (λ r text. IsCodeAttribute r text code.now) pool.old pool.new out.old.items out.new.items) }
+    ensures takes { Takes (1 + sum_by insn_entries code.now.insns) (FitsCode code.now) pool.old pool.new result }
 {
     let name = code_name(alloc)?;
     let index = add_text(pool, &name)?;
     let mut content = Vec::new(alloc);
     put_code(alloc, pool, &mut content, code)?;
     let len = content.len();
-    if len > 4294967295 {
-        return Err(EncodeStop::Limit(EncodeKind::Length, len as u64));
-    }
     put_u16(out, index)?;
     put_u32(out, len as u32)?;
     out.extend_from_slice(&content)?;
@@ -79,7 +79,8 @@ pub fn put_attributes(
     code: &Option<CodeDef>,
 ) -> Result<(), EncodeStop>
     requires { IfSome code.now IsBuiltCode }
-    ensures { OnOk result (Writes (λ r text. IsTable (IsCodeAttribute r) text (option_to_list code.now)) pool.old pool.new out.old.items out.new.items) }
+    ensures written { OnOk result (Writes (λ r text. IsTable (IsCodeAttribute r) text (option_to_list code.now)) pool.old pool.new out.old.items out.new.items) }
+    ensures takes { Takes (code_entries code.now) (IfSome code.now FitsCode) pool.old pool.new result }
 {
     match code {
         None => {

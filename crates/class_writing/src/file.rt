@@ -6,11 +6,11 @@ ghost use Rattle.class_writing.specs.Writing.{Puts, IsWritable, IsWell};
 
 use crate::bytes::put_u16;
 use crate::pool::PoolEditor;
-use crate::stop::EncodeStop;
 use class_grammar::Entry;
+use std::alloc::AllocError;
 
 /// Units below 128, each as one byte.
-fn put_units(out: &mut Vec<u8>, units: &[u16]) -> Result<(), EncodeStop>
+fn put_units(out: &mut Vec<u8>, units: &[u16]) -> Result<(), AllocError>
     requires { All (λ u. u < 128) units.now }
     ensures { OnOk result (out.new.items ≡ out.old.items ++ units.now) }
 {
@@ -20,7 +20,7 @@ fn put_units(out: &mut Vec<u8>, units: &[u16]) -> Result<(), EncodeStop>
     Ok(())
 }
 
-fn put_entry(out: &mut Vec<u8>, entry: &Entry) -> Result<(), EncodeStop>
+fn put_entry(out: &mut Vec<u8>, entry: &Entry) -> Result<(), AllocError>
     requires { IsWritable entry.now }
     ensures { OnOk result (Puts (λ text. IsEntry text entry.now) out.old.items out.new.items) }
 {
@@ -52,7 +52,7 @@ fn put_entry(out: &mut Vec<u8>, entry: &Entry) -> Result<(), EncodeStop>
 }
 
 /// A pool, with its count before it.
-pub fn put_pool(out: &mut Vec<u8>, pool: &PoolEditor) -> Result<(), EncodeStop>
+pub fn put_pool(out: &mut Vec<u8>, pool: &PoolEditor) -> Result<(), AllocError>
     requires { IsWell pool.now }
     ensures { OnOk result (Puts (λ text. IsPool text pool.now) out.old.items out.new.items) }
 {

@@ -1,6 +1,6 @@
 //! Writing instructions (JVMS 6.5), each in its shortest spelling.
 
-ghost use Rattle.std.specs.Prelude.{◌≡◌, ◌∷◌, [], Some, OnOk, All};
+ghost use Rattle.std.specs.Prelude.{◌≡◌, ◌+◌, ◌∷◌, [], length, Some, OnOk, All, sum_by};
 ghost use Rattle.std.specs.Int.{w16, to_be_bytes};
 ghost use Rattle.class_input.specs.Grammar.{Each};
 ghost use Rattle.class_model.specs.declared.insn.Insn.{Insn};
@@ -10,19 +10,20 @@ ghost use Rattle.class_model.specs.declared.insn.Kind.TheVariants as kinds;
 ghost use Rattle.class_model.specs.declared.insn.Width.TheVariants as widths;
 ghost use Rattle.class_grammar.specs.Pool.{Pool};
 ghost use Rattle.class_grammar.specs.Built.{IsShort, IsBuiltOp, IsBuiltMethodRef, IsBuiltInsn};
-ghost use Rattle.class_grammar.specs.Code.{plain, IsInsn};
-ghost use Rattle.class_writing.specs.Writing.{Puts, Writes};
+ghost use Rattle.class_grammar.specs.Code.{plain};
+ghost use Rattle.class_grammar.specs.Sizes.{insn_bytes, code_bytes, insn_entries, FitsMethodRef, FitsInsn};
+ghost use Rattle.class_writing.specs.Writing.{IsShortest, Puts, Writes, Takes};
 
 use crate::bytes::put_u16;
 use crate::names::put_method_ref;
 use crate::pool::PoolEditor;
 use crate::stop::EncodeStop;
 use class_model::{BinOp, Insn, MethodRef};
-use std::alloc::Global;
+use std::alloc::{AllocError, Global};
 
 /// An instruction that is its opcode alone.
-pub fn put_alone(out: &mut Vec<u8>, opcode: u8) -> Result<(), EncodeStop>
-    ensures { (p : Pool) (insn : Insn) → plain opcode ≡ Some insn → OnOk result (Writes (λ r text. IsInsn r text insn) p p out.old.items out.new.items) }
+pub fn put_alone(out: &mut Vec<u8>, opcode: u8) -> Result<(), AllocError>
+    ensures { (p : Pool) (insn : Insn) → plain opcode ≡ Some insn → insn_bytes insn ≡ 1 → OnOk result (Writes (λ r text. IsShortest r text insn) p p out.old.items out.new.items) }
 {
     out.push(opcode)?;
     Ok(())
@@ -30,7 +31,7 @@ pub fn put_alone(out: &mut Vec<u8>, opcode: u8) -> Result<(), EncodeStop>
 
 /// An opcode with one byte behind it.
 #[tactic(auto, using(crate::proofs::Pieces::puts))]
-fn put_byte(out: &mut Vec<u8>, opcode: u8, operand: u8) -> Result<(), EncodeStop>
+fn put_byte(out: &mut Vec<u8>, opcode: u8, operand: u8) -> Result<(), AllocError>
     ensures { OnOk result (Puts (λ text. text ≡ opcode ∷ operand ∷ []) out.old.items out.new.items) }
 {
     out.extend_from_slice(&[opcode, operand])?;
@@ -38,9 +39,9 @@ fn put_byte(out: &mut Vec<u8>, opcode: u8, operand: u8) -> Result<(), EncodeStop
 }
 
 /// `iconst`, `bipush` or `sipush`.
-fn put_push(out: &mut Vec<u8>, n: i32) -> Result<(), EncodeStop>
+fn put_push(out: &mut Vec<u8>, n: i32) -> Result<(), AllocError>
     requires { IsShort n }
-    ensures { (p : Pool) → OnOk result (Writes (λ r text. IsInsn r text (insns.PushInt n)) p p out.old.items out.new.items) }
+    ensures { (p : Pool) → OnOk result (Writes (λ r text. IsShortest r text (insns.PushInt n)) p p out.old.items out.new.items) }
 {
     if n >= -1 && n <= 5 {
         return put_alone(out, (n + 3) as u8);
@@ -55,7 +56,7 @@ fn put_push(out: &mut Vec<u8>, n: i32) -> Result<(), EncodeStop>
 }
 
 /// A local in the wide form, with the opcode that it has in the short one.
-fn put_wide(out: &mut Vec<u8>, opcode: u8, slot: u16) -> Result<(), EncodeStop>
+fn put_wide(out: &mut Vec<u8>, opcode: u8, slot: u16) -> Result<(), AllocError>
     ensures { OnOk result (Puts (λ text. text ≡ 196 ∷ opcode ∷ to_be_bytes w16 slot) out.old.items out.new.items) }
 {
     put_byte(out, 196, opcode)?;
@@ -64,8 +65,8 @@ fn put_wide(out: &mut Vec<u8>, opcode: u8, slot: u16) -> Result<(), EncodeStop>
 }
 
 /// `iload`: the locals 0 to 3 by their opcodes, those to 255 in one byte, all others in the wide form.
-fn put_load(out: &mut Vec<u8>, slot: u16) -> Result<(), EncodeStop>
-    ensures { (p : Pool) → OnOk result (Writes (λ r text. IsInsn r text (insns.Load kinds.Int slot)) p p out.old.items out.new.items) }
+fn put_load(out: &mut Vec<u8>, slot: u16) -> Result<(), AllocError>
+    ensures { (p : Pool) → OnOk result (Writes (λ r text. IsShortest r text (insns.Load kinds.Int slot)) p p out.old.items out.new.items) }
 {
     if slot < 4 {
         return put_alone(out, 26 + slot as u8);
@@ -79,8 +80,8 @@ fn put_load(out: &mut Vec<u8>, slot: u16) -> Result<(), EncodeStop>
 }
 
 /// `istore`, spelled as `iload` is.
-fn put_store(out: &mut Vec<u8>, slot: u16) -> Result<(), EncodeStop>
-    ensures { (p : Pool) → OnOk result (Writes (λ r text. IsInsn r text (insns.Store kinds.Int slot)) p p out.old.items out.new.items) }
+fn put_store(out: &mut Vec<u8>, slot: u16) -> Result<(), AllocError>
+    ensures { (p : Pool) → OnOk result (Writes (λ r text. IsShortest r text (insns.Store kinds.Int slot)) p p out.old.items out.new.items) }
 {
     if slot < 4 {
         return put_alone(out, 59 + slot as u8);
@@ -115,7 +116,8 @@ fn put_invoke(
     method: &MethodRef,
 ) -> Result<(), EncodeStop>
     requires { IsBuiltMethodRef method.now }
-    ensures { OnOk result (Writes (λ r text. IsInsn r text (insns.Invoke invokes.Static method.now)) pool.old pool.new out.old.items out.new.items) }
+    ensures written { OnOk result (Writes (λ r text. IsShortest r text (insns.Invoke invokes.Static method.now)) pool.old pool.new out.old.items out.new.items) }
+    ensures takes { Takes 6 (FitsMethodRef method.now) pool.old pool.new result }
 {
     out.push(184)?;
     put_method_ref(alloc, pool, out, method)?;
@@ -129,15 +131,16 @@ fn put_insn(
     insn: &Insn,
 ) -> Result<(), EncodeStop>
     requires { IsBuiltInsn insn.now }
-    ensures { OnOk result (Writes (λ r text. IsInsn r text insn.now) pool.old pool.new out.old.items out.new.items) }
+    ensures written { OnOk result (Writes (λ r text. IsShortest r text insn.now) pool.old pool.new out.old.items out.new.items) }
+    ensures takes { Takes (insn_entries insn.now) (FitsInsn insn.now) pool.old pool.new result }
 {
     match insn {
-        Insn::PushInt(n) => put_push(out, *n),
-        Insn::Load(_, slot) => put_load(out, *slot),
-        Insn::Store(_, slot) => put_store(out, *slot),
-        Insn::Stack(_) => put_alone(out, 87),
-        Insn::Bin(_, op) => put_alone(out, bin_opcode(*op)),
-        Insn::Return(_) => put_alone(out, 177),
+        Insn::PushInt(n) => Ok(put_push(out, *n)?),
+        Insn::Load(_, slot) => Ok(put_load(out, *slot)?),
+        Insn::Store(_, slot) => Ok(put_store(out, *slot)?),
+        Insn::Stack(_) => Ok(put_alone(out, 87)?),
+        Insn::Bin(_, op) => Ok(put_alone(out, bin_opcode(*op))?),
+        Insn::Return(_) => Ok(put_alone(out, 177)?),
         Insn::Invoke(_, method) => put_invoke(alloc, pool, out, method),
         _ => unreachable!(),
     }
@@ -150,7 +153,9 @@ pub fn put_insns(
     insns: &[Insn],
 ) -> Result<(), EncodeStop>
     requires { All IsBuiltInsn insns.now }
-    ensures { OnOk result (Writes (λ r text. Each (IsInsn r) text insns.now) pool.old pool.new out.old.items out.new.items) }
+    ensures written { OnOk result (Writes (λ r text. Each (IsShortest r) text insns.now) pool.old pool.new out.old.items out.new.items) }
+    ensures size { OnOk result (length out.new.items ≡ length out.old.items + code_bytes insns.now) }
+    ensures takes { Takes (sum_by insn_entries insns.now) (All FitsInsn insns.now) pool.old pool.new result }
 {
     for insn in insns {
         put_insn(alloc, pool, out, insn)?;

@@ -6,7 +6,8 @@ ghost use Rattle.class_grammar.specs.Built.{IsBuiltText, IsBuiltType, IsBuiltDes
 ghost use Rattle.class_grammar.specs.Pool as grammar;
 ghost use Rattle.class_grammar.specs.Names.{IndexesType, IndexesDesc};
 ghost use Rattle.class_grammar.specs.Code.{IndexesMethod};
-ghost use Rattle.class_writing.specs.Writing.{Adds, Writes, TextClaim, ClassClaim, PairClaim, MethodClaim};
+ghost use Rattle.class_grammar.specs.Sizes.{FitsText, FitsType, FitsDesc, FitsMethodRef};
+ghost use Rattle.class_writing.specs.Writing.{Adds, Writes, Takes, TextClaim, ClassClaim, PairClaim, MethodClaim};
 
 use crate::bytes::put_u16;
 use crate::pool::PoolEditor;
@@ -20,7 +21,8 @@ use std::alloc::{AllocError, Global};
 #[tactic(auto, using(crate::proofs::Adding::adds_text))]
 pub fn add_text(pool: &mut PoolEditor, text: &Name) -> Result<u16, EncodeStop>
     requires { IsBuiltText text.now }
-    ensures { IfOk result (λ k. Adds (TextClaim text.now) pool.old pool.new k) }
+    ensures index { IfOk result (λ k. Adds (TextClaim text.now) pool.old pool.new k) }
+    ensures takes { Takes 1 (FitsText text.now) pool.old pool.new result }
 {
     let len = text.len();
     if len > 65535 {
@@ -31,7 +33,8 @@ pub fn add_text(pool: &mut PoolEditor, text: &Name) -> Result<u16, EncodeStop>
 
 pub fn add_class(pool: &mut PoolEditor, name: &Name) -> Result<u16, EncodeStop>
     requires { IsBuiltText name.now }
-    ensures { IfOk result (λ k. Adds (ClassClaim name.now) pool.old pool.new k) }
+    ensures index { IfOk result (λ k. Adds (ClassClaim name.now) pool.old pool.new k) }
+    ensures takes { Takes 2 (FitsText name.now) pool.old pool.new result }
 {
     let text = add_text(pool, name)?;
     Ok(pool.add(Entry::Class(text))?)
@@ -40,7 +43,8 @@ pub fn add_class(pool: &mut PoolEditor, name: &Name) -> Result<u16, EncodeStop>
 fn add_pair(pool: &mut PoolEditor, name: &Name, descriptor: &Name) -> Result<u16, EncodeStop>
     requires name { IsBuiltText name.now }
     requires descriptor { IsBuiltText descriptor.now }
-    ensures { IfOk result (λ k. Adds (PairClaim name.now descriptor.now) pool.old pool.new k) }
+    ensures index { IfOk result (λ k. Adds (PairClaim name.now descriptor.now) pool.old pool.new k) }
+    ensures takes { Takes 3 (FitsText name.now × FitsText descriptor.now) pool.old pool.new result }
 {
     let name = add_text(pool, name)?;
     let descriptor = add_text(pool, descriptor)?;
@@ -64,7 +68,8 @@ pub fn add_method(
     method: &MethodRef,
 ) -> Result<u16, EncodeStop>
     requires { IsBuiltMethodRef method.now }
-    ensures { IfOk result (λ k. Adds (MethodClaim method.now) pool.old pool.new k) }
+    ensures index { IfOk result (λ k. Adds (MethodClaim method.now) pool.old pool.new k) }
+    ensures takes { Takes 6 (FitsMethodRef method.now) pool.old pool.new result }
 {
     let class_name = class_name(alloc, &method.class)?;
     let class = add_class(pool, &class_name)?;
@@ -76,7 +81,8 @@ pub fn add_method(
 /// The index of a text.
 pub fn put_text(pool: &mut PoolEditor, out: &mut Vec<u8>, text: &Name) -> Result<(), EncodeStop>
     requires { IsBuiltText text.now }
-    ensures { OnOk result (Writes (λ r bytes. grammar.Indexes grammar.as_text r bytes text.now) pool.old pool.new out.old.items out.new.items) }
+    ensures written { OnOk result (Writes (λ r bytes. grammar.Indexes grammar.as_text r bytes text.now) pool.old pool.new out.old.items out.new.items) }
+    ensures takes { Takes 1 (FitsText text.now) pool.old pool.new result }
 {
     let index = add_text(pool, text)?;
     put_u16(out, index)?;
@@ -86,7 +92,8 @@ pub fn put_text(pool: &mut PoolEditor, out: &mut Vec<u8>, text: &Name) -> Result
 /// The index of a class, by its name.
 pub fn put_class(pool: &mut PoolEditor, out: &mut Vec<u8>, name: &Name) -> Result<(), EncodeStop>
     requires { IsBuiltText name.now }
-    ensures { OnOk result (Writes (λ r bytes. grammar.Indexes (grammar.as_class_name r) r bytes name.now) pool.old pool.new out.old.items out.new.items) }
+    ensures written { OnOk result (Writes (λ r bytes. grammar.Indexes (grammar.as_class_name r) r bytes name.now) pool.old pool.new out.old.items out.new.items) }
+    ensures takes { Takes 2 (FitsText name.now) pool.old pool.new result }
 {
     let index = add_class(pool, name)?;
     put_u16(out, index)?;
@@ -101,7 +108,8 @@ pub fn put_method_ref(
     method: &MethodRef,
 ) -> Result<(), EncodeStop>
     requires { IsBuiltMethodRef method.now }
-    ensures { OnOk result (Writes (λ r bytes. IndexesMethod r bytes method.now) pool.old pool.new out.old.items out.new.items) }
+    ensures written { OnOk result (Writes (λ r bytes. IndexesMethod r bytes method.now) pool.old pool.new out.old.items out.new.items) }
+    ensures takes { Takes 6 (FitsMethodRef method.now) pool.old pool.new result }
 {
     let index = add_method(alloc, pool, method)?;
     put_u16(out, index)?;
@@ -116,7 +124,8 @@ pub fn put_type(
     ty: &JType,
 ) -> Result<(), EncodeStop>
     requires { IsBuiltType ty.now }
-    ensures { OnOk result (Writes (λ r bytes. IndexesType r bytes ty.now) pool.old pool.new out.old.items out.new.items) }
+    ensures written { OnOk result (Writes (λ r bytes. IndexesType r bytes ty.now) pool.old pool.new out.old.items out.new.items) }
+    ensures takes { Takes 1 (FitsType ty.now) pool.old pool.new result }
 {
     let descriptor = print_type(alloc, ty)?;
     put_text(pool, out, &descriptor)?;
@@ -131,7 +140,8 @@ pub fn put_desc(
     desc: &MethodDesc,
 ) -> Result<(), EncodeStop>
     requires { IsBuiltDesc desc.now }
-    ensures { OnOk result (Writes (λ r bytes. IndexesDesc r bytes desc.now) pool.old pool.new out.old.items out.new.items) }
+    ensures written { OnOk result (Writes (λ r bytes. IndexesDesc r bytes desc.now) pool.old pool.new out.old.items out.new.items) }
+    ensures takes { Takes 1 (FitsDesc desc.now) pool.old pool.new result }
 {
     let descriptor = print_desc(alloc, desc)?;
     put_text(pool, out, &descriptor)?;

@@ -1,8 +1,8 @@
 //! A constant pool under construction (JVMS 4.4).
 
-ghost use Rattle.std.specs.Prelude.{◌≡◌, ◌⊎◌, ◌<◌, ◌≤◌, ◌↔◌, [], ◌∷◌, ◌++◌, length, slice_get, Contains, Some, IfSome, IfNone, IfOk, OnOk, OnErr, IsErrOf, IsTrue};
+ghost use Rattle.std.specs.Prelude.{◌≡◌, ◌⊎◌, ◌<◌, ◌≤◌, ◌↔◌, [], ◌∷◌, ◌++◌, length, slice_get, Contains, Some, ⊤, IfSome, IfNone, IfOk, IfErr, OnOk, OnErr, IsErrOf, IsTrue};
 ghost use Rattle.class_grammar.specs.Pool.{entry_at};
-ghost use Rattle.class_writing.specs.Writing.{Grew, AddsEntry};
+ghost use Rattle.class_writing.specs.Writing.{Grew, AddsEntry, Takes};
 
 use crate::stop::{EncodeKind, EncodeStop};
 use class_grammar::Entry;
@@ -69,6 +69,7 @@ impl PoolEditor {
         ensures found { Contains self.old entry → OnOk result (self.new ≡ self.old) }
         ensures added { (Contains self.old entry → ⊥) → OnOk result (self.new ≡ self.old ++ entry ∷ []) }
         ensures grew { OnOk result (Grew self.old self.new entry) }
+        ensures room { length self.old < 65534 → IfErr result (λ stop. stop ≡ EncodeStop.Memory) }
         ensures full { IsErrOf result (EncodeStop.Limit EncodeKind.Pool 65535) → (Contains self.old entry → ⊥) × (length self.old ≡ 65534) }
     {
         if let Some(at) = place_of(&self.entries, &entry) {
@@ -83,7 +84,8 @@ impl PoolEditor {
 
     /// The index of an equal entry, else of a new last one.
     pub fn add(&mut self, entry: Entry) -> Result<u16, EncodeStop>
-        ensures { IfOk result (λ k. AddsEntry self.old self.new k entry) }
+        ensures index { IfOk result (λ k. AddsEntry self.old self.new k entry) }
+        ensures takes { Takes 1 ⊤ self.old self.new result }
     {
         let place = self.place(entry)?;
         Ok(place as u16 + 1)
