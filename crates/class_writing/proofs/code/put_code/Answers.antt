@@ -16,5 +16,5 @@ returns-clause-written c =
     let w : Writes (λ r text. Each (IsShortest r) text code.insns) p q [] bytes = subst (λ xs. Writes (λ r text. Each (IsShortest r) text xs) p q [] bytes) c.as_slice.ensures from_none in
     let length_is : Puts (λ t. IsU32 t (length bytes)) c.put_u16-2.new.out.items c.put_u32.new.out.items = subst (λ (n : ℕ). Puts (λ t. IsU32 t n) c.put_u16-2.new.out.items c.put_u32.new.out.items) len c.in_ok-put_u32.ensures in
     let middle = copied bytes c.put_u32.new.out.items c.extend_from_slice.new.self.items (c.in_ok-extend_from_slice.ensures.items ∙ ap (λ (z : List ℕ). c.put_u32.new.out.items ++ z) c.deref.ensures.value) in
-    code_writes p q code bytes c.args.out.now.items c.put_u16-4.new.out.items c.requires (omega (arith, c.if-len-eq0.false, len)) (omega (arith, c.if-len-gt65535.false, len)) w
+    code_writes p q code bytes c.args.out.now.items c.put_u16-4.new.out.items c.requires (omega (arith, len)) (omega (arith, len)) w
     (then_puts c.in_ok-put_u16.ensures (then_puts c.in_ok-put_u16-2.ensures (then_puts length_is (then_puts middle (then_puts c.in_ok-put_u16-3.ensures c.in_ok-put_u16-4.ensures)))))
