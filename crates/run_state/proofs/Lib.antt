@@ -1,0 +1,9 @@
+pub mod ErasedWords
+pub mod ErasedHeap
+pub mod ErasedOperands
+pub mod ErasedCopying
+pub mod ErasedCalls
+pub mod ErasedObjects
+pub mod ErasedRuns
+pub mod ErasedStart
+pub mod RunsOn
