@@ -1,0 +1,29 @@
+-- The sets and the lists of sources and sinks that are instrumented so far. This project's own.
+use Rattle.std.specs.Prelude.{◌≡◌, ℤ, List, [], ◌∷◌, ◌⊎◌, codes}
+use Rattle.lists.specs.Texts.{units_of}
+use Rattle.class_model.specs.declared.class.ClassDef.{ClassDef}
+use Rattle.class_grammar.specs.Built.{IsShort, IsBuilt}
+use Rattle.run_state.specs.declared.config.Config.{Config}
+use Rattle.run_state.specs.declared.config.Source.{Source}
+use Rattle.run_state.specs.declared.config.Sink.{Sink}
+use Rattle.first_form.specs.declared.names.Names.TheVariants as names
+use Rattle.first_form.specs.Natives.{native_name, gives_int, takes_int}
+use Rattle.first_form.specs.FormOne.{FormOne}
+use Rattle.first_form.specs.Base.{small_base}
+
+-- the small base, or one class of the form before it, which was read from bytes
+abbrev pub IsFirstSet : List ClassDef → Type 0
+IsFirstSet set = (set ≡ small_base) ⊎ ((class : ClassDef) × (set ≡ class ∷ small_base) × FormOne names.Source class × IsBuilt class)
+
+-- `sys/Native.read()I` as a source
+abbrev pub read_source : (tag : ℤ) → Source
+read_source tag = record { class = native_name; name = units_of (codes "read"); desc = gives_int; tag = tag }
+
+-- `sys/Native.write(I)V` as a sink
+abbrev pub write_sink : Sink
+write_sink = record { class = native_name; name = units_of (codes "write"); desc = takes_int }
+
+-- at most one source, `sys/Native.read()I`, with a tag that two bytes hold; at most one sink, `sys/Native.write(I)V`
+pub record IsFirstConfig (config : Config) : Type 0 where
+  pub source : (config.sources ≡ []) ⊎ ((tag : ℤ) × IsShort tag × (config.sources ≡ read_source tag ∷ []))
+  pub sink : (config.sinks ≡ []) ⊎ (config.sinks ≡ write_sink ∷ [])
