@@ -1,0 +1,30 @@
+-- The written set of a set of the first form, in the order of its paths. This project's own.
+use Rattle.std.specs.Prelude.{ℕ, Bool, List, [], ◌∷◌, ◌++◌, codes, if◌then◌else◌}
+use Rattle.std.specs.Ordering.{nat_cmp, is_lt}
+use Rattle.std.specs.Cmp.Lexicographic.{slice_cmp}
+use Rattle.class_model.specs.declared.class.ClassDef.{ClassDef}
+use Rattle.first_form.specs.Base.{object_class, string_class, native_class, report_class}
+use Rattle.instrument_set.specs.declared.marks.Marks.{Marks}
+use Rattle.instrument_set.specs.Written.{written_class}
+
+-- the path of a class of this name; each of its units is one byte, as far as texts are written
+abbrev pub path_of : List ℕ → List ℕ
+path_of name = name ++ codes ".class"
+
+-- whether a class comes before another, by the bytes of their paths
+abbrev pub comes_before : ClassDef → ClassDef → Bool
+comes_before c d = is_lt (slice_cmp nat_cmp (path_of c.name) (path_of d.name))
+
+-- a class among classes in the order of their paths
+abbrev pub insert_class : ClassDef → List ClassDef → List ClassDef
+insert_class c [] = c ∷ []
+insert_class c (d ∷ ds) = if comes_before c d then c ∷ d ∷ ds else d ∷ insert_class c ds
+
+-- what stands beside a written class: the small base as it stands, and the class of reports
+abbrev pub written_base : List ClassDef
+written_base = object_class ∷ string_class ∷ report_class ∷ native_class ∷ []
+
+-- the written class of the one before the small base, where there is one
+abbrev pub written_set : Marks → List ClassDef → List ClassDef
+written_set marks (class ∷ object ∷ string ∷ native ∷ []) = insert_class (written_class marks class) written_base
+written_set marks set = written_base

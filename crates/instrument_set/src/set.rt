@@ -1,0 +1,112 @@
+//! The written set of a set of the first form.
+
+ghost use Rattle.std.specs.Prelude.{◌≡◌, ◌≤◌, List, length, insert, map, IfOk};
+ghost use Rattle.std.specs.List.{AllZip};
+ghost use Rattle.first_form.specs.declared.names.Names.TheVariants as names;
+ghost use Rattle.first_form.specs.FirstSet.{IsFirstSet, IsFirstConfig};
+ghost use Rattle.set_loader.specs.declared.file.File.{File};
+ghost use Rattle.set_loader.specs.Loads.{IsFileOf, Loads};
+ghost use Rattle.instrument_set.specs.Marking.{marks_of};
+ghost use Rattle.instrument_set.specs.Mirrors.{Mirrors};
+ghost use Rattle.instrument_set.specs.WrittenPaths.{written_paths};
+ghost use Rattle.instrument_set.specs.WrittenSet as spec;
+
+use crate::marks::Marks;
+use crate::rewrite::rewrite_class;
+use class_model::ClassDef;
+use first_form::{report_class, small_base};
+use lists::Name;
+use run_state::Config;
+use std::alloc::{AllocError, Global};
+
+/// The units of `.class`.
+const PATH_END: [u16; 6] = [46, 99, 108, 97, 115, 115];
+
+/// What the lists say of `read` and `write`.
+fn marks(config: &Config) -> Marks
+    ensures { result ≡ marks_of config.now }
+{
+    let read = match config.sources.as_slice() {
+        [source, ..] => source.tag,
+        [] => 0,
+    };
+    Marks {
+        read,
+        write: !config.sinks.is_empty(),
+    }
+}
+
+/// The units of the path of a class of this name.
+fn path_units(alloc: Global, name: &Name) -> Result<Vec<u16>, AllocError>
+    ensures { IfOk result (λ units. units.items ≡ spec.path_of name.now) }
+{
+    let mut units = Vec::new(alloc);
+    units.extend_from_slice(name.as_units())?;
+    units.extend_from_slice(&PATH_END)?;
+    Ok(units)
+}
+
+/// Whether a class comes before another by its path.
+fn comes_before(alloc: Global, class: &ClassDef, other: &ClassDef) -> Result<bool, AllocError>
+    ensures { IfOk result (λ before. before ≡ spec.comes_before class.now other.now) }
+{
+    let path = path_units(alloc, &class.name)?;
+    let other_path = path_units(alloc, &other.name)?;
+    Ok(path.as_slice().cmp(other_path.as_slice()).is_lt())
+}
+
+/// The place of a class among classes in the order of their paths.
+fn place_of(alloc: Global, class: &ClassDef, classes: &[ClassDef]) -> Result<usize, AllocError>
+    ensures within { IfOk result (λ at. at ≤ length classes.now) }
+    ensures there { IfOk result (λ at. insert classes.now at class.now ≡ spec.insert_class class.now classes.now) }
+{
+    for (at, other) in classes.iter().enumerate() {
+        if comes_before(alloc, class, other)? {
+            return Ok(at);
+        }
+    }
+    Ok(classes.len())
+}
+
+/// The classes that stand beside the written class of a user.
+#[tactic(auto, unfolding(first_form::specs::Base::small_base))]
+fn written_base(alloc: Global) -> Result<Vec<ClassDef>, AllocError>
+    ensures { IfOk result (λ classes. classes.items ≡ spec.written_base) }
+{
+    let mut classes = small_base(alloc)?;
+    classes.insert(2, report_class(alloc)?)?;
+    Ok(classes)
+}
+
+/// The written set of a set.
+fn written_set(alloc: Global, set: &[ClassDef], marks: Marks) -> Result<Vec<ClassDef>, AllocError>
+    requires { IsFirstSet set.now }
+    ensures { IfOk result (λ written. written.items ≡ spec.written_set marks set.now) }
+{
+    let mut classes = written_base(alloc)?;
+    if let [class, _, _, _] = set {
+        let written = rewrite_class(alloc, class, marks)?;
+        let at = place_of(alloc, &written, &classes)?;
+        classes.insert(at, written)?;
+    }
+    Ok(classes)
+}
+
+/// The written set of a set: the small base as it stands, the class of reports, and the written class of
+/// the user's, where there is one. The classes are in the order of their paths.
+pub(crate) fn rewrite_set(
+    alloc: Global,
+    set: &[ClassDef],
+    config: &Config,
+) -> Result<Vec<ClassDef>, AllocError>
+    requires set { IsFirstSet set.now }
+    requires config { IsFirstConfig config.now }
+    ensures exact { IfOk result (λ written. written.items ≡ spec.written_set (marks_of config.now) set.now) }
+    ensures mirrors { IfOk result (λ written. Mirrors set.now config.now written.items) }
+    ensures paths { IfOk result (λ written. map (λ c. spec.path_of c.name) written.items ≡ written_paths set.now) }
+    // Files that are class files of these classes, in this order, load with the names of written classes.
+    ensures loads { IfOk result (λ written. (files : List File) → AllZip IsFileOf files written.items → Loads names.Written files written.items) }
+{
+    let written = written_set(alloc, set, marks(config))?;
+    Ok(written)
+}
