@@ -1,7 +1,4 @@
-pub mod Lines
-pub mod Stops
-pub mod Told
-pub mod Folders
-pub mod Form
-pub mod Loads
-pub mod Written
+pub mod Commands
+pub mod Verdict
+pub mod Endings
+pub mod Answers

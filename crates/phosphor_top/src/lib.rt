@@ -1,22 +1,10 @@
 //! The top call of Phosphor: the words of a command, the devices, and the order of its work.
 #![tactic(auto)]
 
-mod base;
-mod command;
-mod config;
-mod files;
-mod form;
 mod instrument;
-mod load;
-mod natives;
-mod pieces;
-mod rewrite;
-mod slots;
-mod stop;
-mod straight;
-mod tell;
+mod parts;
 mod top;
-mod written;
+mod words;
 
 pub use top::phosphor;
 

@@ -265,6 +265,25 @@ fn each_call_of_the_folder_fails_in_turn(rt: HostRuntime) -> Result<(), Fail> {
 }
 
 #[test]
+fn a_third_write_that_fails(rt: HostRuntime) -> Result<(), Fail> {
+    let alloc = rt.alloc();
+    let mut whole = sum_folder(alloc, None)?;
+    instrument(&rt, alloc, &mut whole, 0, "")?;
+    let mut folder = sum_folder(alloc, Some(8))?;
+    let line = "write fault: out/java/lang/String.class\n";
+    instrument(&rt, alloc, &mut folder, 4, line)?;
+    for path in ["out/A.class", "out/java/lang/Object.class"] {
+        assert!(rt; folder.file(path) == whole.file(path), "{path}");
+    }
+    let third = "out/java/lang/String.class";
+    let all = whole.file(third).ok_or("no third file")?;
+    let left = folder.file(third).unwrap_or_default();
+    assert!(rt; all.starts_with(left));
+    assert!(rt; folder.file("out/phosphor/Report.class").is_none());
+    Ok(())
+}
+
+#[test]
 fn a_line_that_is_not_taken(rt: HostRuntime) -> Result<(), Fail> {
     let alloc = rt.alloc();
     let mut folder = empty_folder(alloc)?;

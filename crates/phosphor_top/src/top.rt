@@ -1,27 +1,40 @@
 //! The top call.
 
-ghost use Rattle.std.specs.Prelude.{◌≡◌, ◌≢◌, [], ◌∷◌, ◌⊎◌, Contains};
+ghost use Rattle.std.specs.Prelude.{◌≡◌, ◌≢◌, [], ◌∷◌, ◌⊎◌, Contains, IfErr, IfSome, Err, map, string_bytes};
 ghost use Rattle.outside_io.specs.Causes.{Rose};
 ghost use Rattle.outside_io.specs.Files.{Stay};
-ghost use Rattle.phosphor_top.specs.Lines.{usage_line, memory_line};
-ghost use Rattle.phosphor_top.specs.Folders.{Worked};
-ghost use Rattle.phosphor_top.specs.Told.{Took, TookReadFault, TookWriteFault};
+ghost use Rattle.command_parts.specs.Lines.{usage_line, memory_line};
+ghost use Rattle.command_parts.specs.Told.{Took, TookReadFault, TookWriteFault};
+ghost use Rattle.phosphor_top.specs.Answers.{IsComplete, IsDue, IsNoCommand, IsRefusal, IsRefused, IsStopped, IsWhole, Tells};
+ghost use Rattle.phosphor_top.specs.Endings.{Causes, IfTold, Obeys};
 
-use crate::command::command_of;
 use crate::instrument::instrument;
-use crate::stop::Stop;
-use crate::tell::tell;
+use crate::words::command_of;
+use command_parts::{Stop, tell};
 use outside_io::{ByteSink, ByteSource, Folder};
 use std::alloc::Global;
 
 /// Does what the words say, or finds that they are no command.
 fn obey<F: Folder>(alloc: Global, words: &[String], folder: &mut F) -> Result<(), Stop>
-    ensures { Worked (F.files folder.old) (F.files folder.new) (F.read_faults folder.old)
-        (F.read_faults folder.new) (F.write_faults folder.old) (F.write_faults folder.new) result }
+    ensures obeys { IfTold (F.files folder.old) (F.files folder.new) (λ old new. Obeys (map string_bytes words.now) old new result) }
+    ensures usage { result ≡ Err Stop.Usage → IsNoCommand (map string_bytes words.now) }
+    ensures no_command { IsNoCommand (map string_bytes words.now) → result ≡ Err Stop.Usage }
+    ensures cause { IfErr result (λ stop. Causes stop (F.read_faults folder.old) (F.read_faults folder.new)
+        (F.write_faults folder.old) (F.write_faults folder.new)) }
 {
     match command_of(words) {
         Some(command) => instrument(alloc, folder, command),
         None => Err(Stop::Usage),
+    }
+}
+
+/// The status of an outcome. Where a command was stopped, its line is written to standard error.
+fn answer<E: ByteSink>(err: &mut E, outcome: Result<(), Stop>) -> u8
+    ensures { Tells outcome (E.held err.old) (E.held err.new) (E.faults err.old) (E.faults err.new) result }
+{
+    match outcome {
+        Ok(()) => 0,
+        Err(stop) => tell(err, &stop),
     }
 }
 
@@ -38,7 +51,8 @@ fn obey<F: Folder>(alloc: Global, words: &[String], folder: &mut F) -> Result<()
 /// | 5 | memory ran out |
 /// | 10 | a folder holds more than 1,000,000 files, or a file more than 16,777,216 bytes |
 ///
-/// At each status but 0, `err` gets one line that says why.
+/// At each status but 0, `err` gets one line that says why. Statuses 1, 2 and 10 come exactly where
+/// they are due, and yield to 3, 4 and 5.
 pub fn phosphor<F: Folder, I: ByteSource, O: ByteSink, E: ByteSink>(
     alloc: Global,
     words: &[String],
@@ -49,25 +63,38 @@ pub fn phosphor<F: Folder, I: ByteSource, O: ByteSink, E: ByteSink>(
 ) -> u8
     ensures statuses { Contains (0 ∷ 1 ∷ 2 ∷ 3 ∷ 4 ∷ 5 ∷ 10 ∷ []) result }
 
+    // Status 0: the folder has the instrumented set under the output folder, and no other difference.
+    ensures whole { result ≡ 0 → IfTold (F.files folder.old) (F.files folder.new) (IsWhole (map string_bytes words.now)) }
+    ensures done { result ≡ 0 → Took (E.held err.old) (E.held err.new) [] }
+
+    // Status 1 comes exactly where the words are no command.
+    ensures usage { result ≡ 1 → IsNoCommand (map string_bytes words.now) × Took (E.held err.old) (E.held err.new) usage_line }
+    ensures no_command { IsNoCommand (map string_bytes words.now) → (result ≡ 1) ⊎ ((result ≡ 4) × Rose (E.faults err.old) (E.faults err.new)) }
+
+    // Statuses 2 and 10 come exactly where the verdict says.
+    ensures refused { IsRefusal result → IfSome (F.files folder.old) (λ files.
+        IsRefused (map string_bytes words.now) files (E.held err.old) (E.held err.new) result) }
+    ensures due { IfSome (F.files folder.old) (λ files. IsDue (map string_bytes words.now) files (E.held err.old) (E.held err.new) result) }
+    ensures complete { IfSome (F.files folder.old) (λ files. IsComplete (map string_bytes words.now) files
+        (Rose (F.read_faults folder.old) (F.read_faults folder.new) ⊎ Rose (F.write_faults folder.old) (F.write_faults folder.new)
+        ⊎ Rose (E.faults err.old) (E.faults err.new)) result) }
+
     // A fault is answered only where a count of faults rose in this call.
     ensures read_fault { result ≡ 3 → Rose (F.read_faults folder.old) (F.read_faults folder.new)
         × TookReadFault (E.held err.old) (E.held err.new) }
     ensures write_fault { result ≡ 4 → Rose (E.faults err.old) (E.faults err.new)
         ⊎ (Rose (F.write_faults folder.old) (F.write_faults folder.new)
         × TookWriteFault (E.held err.old) (E.held err.new)) }
-
-    // Only a write changes the folder.
-    ensures kept { result ≢ 0 → result ≢ 4 → Stay (F.files folder.old) (F.files folder.new) }
-
-    ensures done { result ≡ 0 → Took (E.held err.old) (E.held err.new) [] }
-    ensures usage { result ≡ 1 → Took (E.held err.old) (E.held err.new) usage_line }
     ensures memory { result ≡ 5 → Took (E.held err.old) (E.held err.new) memory_line }
+
+    // Only a write changes the folder, and one that is stopped leaves whole files and at most one prefix.
+    ensures kept { result ≢ 0 → result ≢ 4 → Stay (F.files folder.old) (F.files folder.new) }
+    ensures stopped { result ≡ 4 → IfTold (F.files folder.old) (F.files folder.new) (IsStopped (map string_bytes words.now)
+        (E.held err.old) (E.held err.new) (E.faults err.old) (E.faults err.new)) }
 
     ensures input { input.new ≡ input.old }
     ensures output { out.new ≡ out.old }
 {
-    match obey(alloc, words, folder) {
-        Ok(()) => 0,
-        Err(stop) => tell(err, &stop),
-    }
+    let outcome = obey(alloc, words, folder);
+    answer(err, outcome)
 }

@@ -1,0 +1,3 @@
+pub mod ClassFileLists
+pub mod Fronts
+pub mod WrittenFiles

@@ -1,0 +1,6 @@
+pub mod Lines
+pub mod Stops
+pub mod Told
+pub mod Looks
+pub mod Folders
+pub mod Writing

@@ -1,0 +1,17 @@
+//! What commands share: reading the class files of a folder, seeing that one is empty, writing files, and
+//! the line that a command leaves where it stops.
+#![tactic(auto)]
+
+mod laws;
+mod lines;
+mod look;
+mod reading;
+mod stop;
+mod write;
+
+pub use laws::written_class_files;
+pub use lines::tell;
+pub use look::{read_named, see_empty};
+pub use reading::class_files;
+pub use stop::Stop;
+pub use write::{placed, write_files};
