@@ -1,0 +1,9 @@
+pub use Rattle.class_input.specs.Reading
+pub use Rattle.class_input.specs.Grammar
+pub use Rattle.const_pool.specs.Pool
+pub use Rattle.class_names.specs.Pieces
+pub use Rattle.class_names.specs.Names
+pub use Rattle.class_names.specs.Steps
+pub use Rattle.class_names.specs.NameReading
+pub mod Attributes
+pub mod AttributeReading

@@ -1,0 +1,10 @@
+pub use Rattle.class_input.specs.Reading
+pub use Rattle.class_input.specs.Grammar
+pub use Rattle.modified_utf8.specs.Text
+pub use Rattle.const_pool.specs.Pool
+pub use Rattle.const_pool.specs.PoolReading
+pub use Rattle.class_model.specs.Descriptor
+pub mod Pieces
+pub mod Names
+pub mod Steps
+pub mod NameReading
