@@ -1,0 +1,2 @@
+pub mod CodeTables
+pub mod TableReading
