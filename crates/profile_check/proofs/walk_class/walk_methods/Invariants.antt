@@ -1,0 +1,11 @@
+use Rattle.std.proofs.Common.{◌≡◌, ◌+◌, drop}
+use Rattle.profile_check.specs.First.{first, flat_from}
+use Rattle.profile_check.specs.Mentions.{method_mentions}
+use Rattle.profile_check.specs.Walks.{judge_placed}
+use Rattle.profile_check.proofs.walk_class.walk_methods.Given as goal
+
+-- what is left decides
+abbrev pub invariant-loop-k : goal.invariant-loop-k
+invariant-loop-k l =
+    let f = judge_placed l.rule in
+    first f (flat_from method_mentions l.fields l.methods) ≡ first f (flat_from method_mentions (l.fields + l.k) (drop l.k l.methods))

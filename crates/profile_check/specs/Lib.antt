@@ -1,0 +1,10 @@
+pub mod Flags
+pub mod Names
+pub mod Types
+pub mod First
+pub mod Mentions
+pub mod Walks
+pub mod Members
+pub mod Rows
+pub mod Profile
+pub mod Answer
