@@ -1,0 +1,6 @@
+pub mod Sizes
+pub mod Texts
+pub mod Counts
+pub mod Branches
+pub mod Lengths
+pub mod Limits

@@ -1,0 +1,2 @@
+pub mod ShapedInsn
+pub mod Shaped
