@@ -57,9 +57,6 @@ pub enum BadKind {
     /// Bytes after the last attribute of the class.
     #[error("trailing")]
     Trailing,
-    /// A form that is not read yet. Gone once the whole format is read.
-    #[error("not built")]
-    NotBuilt,
 }
 
 /// Why bytes were not read: the first bad place, as an offset in bytes, with its kind, or want of

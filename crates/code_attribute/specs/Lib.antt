@@ -1,0 +1,3 @@
+pub mod CodeContent
+pub mod WholeClass
+pub mod CodeContentReading

@@ -1,0 +1,5 @@
+pub mod FirstLaws
+pub mod Loops
+pub mod ShapeLaws
+pub mod NameLaws
+pub mod FrameLaws

@@ -1,0 +1,3 @@
+pub mod FirstFrame
+pub mod FrameTable
+pub mod FrameReading
