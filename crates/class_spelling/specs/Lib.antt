@@ -1,0 +1,12 @@
+pub use Rattle.class_input.specs.Grammar
+pub use Rattle.const_pool.specs.Pool
+pub use Rattle.class_names.specs.Pieces
+pub use Rattle.class_attributes.specs.Attributes
+pub use Rattle.class_file.specs.ClassBytes
+pub use Rattle.pool_names.specs.Adding
+pub use Rattle.pool_names.specs.Spelling
+pub use Rattle.pool_names.specs.Claims
+pub mod Forms
+pub mod AttributeSpelling
+pub mod ClassSpelling
+pub mod Writable

@@ -1,0 +1,4 @@
+pub mod Tables
+pub mod Frames
+pub mod Content
+pub mod Writable

@@ -1,0 +1,12 @@
+pub mod Numbers
+pub mod Forms
+pub mod Alone
+pub mod Jumps
+pub mod OneInsn
+pub mod SizeLaws
+pub mod Claiming
+pub mod LayoutLaws
+pub mod CodeLaws
+pub mod WellFormed
+pub mod Loops
+pub mod Samples

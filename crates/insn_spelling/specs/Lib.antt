@@ -1,0 +1,5 @@
+pub mod OpcodeOf
+pub mod Raw
+pub mod Families
+pub mod Spelling
+pub mod Conditions

@@ -1,0 +1,6 @@
+pub mod Entries
+pub mod Claiming
+pub mod Texts
+pub mod Naming
+pub mod Lists
+pub mod Room

@@ -1,0 +1,12 @@
+pub use Rattle.class_input.specs.Grammar
+pub use Rattle.modified_utf8.specs.Text
+pub use Rattle.const_pool.specs.Pool
+pub use Rattle.const_pool.specs.Editor
+pub use Rattle.class_model.specs.Descriptor
+pub use Rattle.class_names.specs.Pieces
+pub use Rattle.class_names.specs.Names
+pub mod Same
+pub mod Adding
+pub mod Spelling
+pub mod Fits
+pub mod Claims
