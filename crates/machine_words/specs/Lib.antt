@@ -1,0 +1,3 @@
+pub mod Arith
+pub mod Shapes
+pub mod Tops
