@@ -12,7 +12,7 @@ use Rattle.command_parts.specs.Folders.{below, HasFew, HasMany, HasFile, Refuses
 use Rattle.command_parts.specs.Looks.{Looked}
 use Rattle.set_loader.specs.declared.file.File.{File}
 use Rattle.command_parts.specs.declared.stop.Stop.{Stop}
-use Rattle.command_parts.specs.declared.stop.Stop.TheVariants.{Usage, ListFault, ReadFault, WriteFault, TooManyFiles, FileTooLong, NotBuilt, ConfigNotBuilt, NoFile, NotEmpty, Memory}
+use Rattle.command_parts.specs.declared.stop.Stop.TheVariants.{Usage, ListFault, ReadFault, WriteFault, TooManyFiles, FileTooLong, NotLoaded, ConfigNotBuilt, NoFile, NotEmpty, Memory}
 
 -- the class files of these paths were read
 pub record ReadSoFar (files : Files) (dir : List ℕ) (classes : List (List ℕ)) (list : List File) : Type 0 where
@@ -82,7 +82,7 @@ list_stops (Some files) dir (ReadFault path) h = absurd h
 list_stops (Some files) dir (WriteFault path) h = h
 list_stops (Some files) dir (TooManyFiles at) h = h
 list_stops (Some files) dir (FileTooLong path) h = absurd h
-list_stops (Some files) dir (NotBuilt path) h = h
+list_stops (Some files) dir (NotLoaded line) h = h
 list_stops (Some files) dir ConfigNotBuilt h = h
 list_stops (Some files) dir (NoFile path) h = h
 list_stops (Some files) dir (NotEmpty at) h = h
@@ -122,7 +122,7 @@ read_stops (Some files) dir paths classes i path list (FileTooLong whole) are wi
   named = h.0;
   long = subst (λ (w : List ℕ). IsLong files w) (sym h.0) h.1;
 }
-read_stops (Some files) dir paths classes i path list (NotBuilt at) are within is few so h = h
+read_stops (Some files) dir paths classes i path list (NotLoaded line) are within is few so h = h
 read_stops (Some files) dir paths classes i path list ConfigNotBuilt are within is few so h = h
 read_stops (Some files) dir paths classes i path list (NoFile at) are within is few so h = absurd (some_is_not_none (get files (below dir path)) (is_there files dir paths classes i path are within is few.all) h.1)
 read_stops (Some files) dir paths classes i path list (NotEmpty at) are within is few so h = h

@@ -1,4 +1,5 @@
 pub mod Lines
+pub mod LoadLines
 pub mod Stops
 pub mod Told
 pub mod Looks

@@ -30,10 +30,6 @@ too_many_line dir = codes "too many files: " ++ dir ++ 10 ∷ []
 abbrev pub too_long_line : List ℕ → List ℕ
 too_long_line path = codes "file too long: " ++ path ++ 10 ∷ []
 
--- the class file of this path, relative to its folder, is of a form that is not built yet
-abbrev pub not_built_line : List ℕ → List ℕ
-not_built_line path = codes "refused: " ++ path ++ codes ": not built" ++ 10 ∷ []
-
 abbrev pub config_not_built_line : List ℕ
 config_not_built_line = ended (codes "refused: config: not built")
 

@@ -1,9 +1,9 @@
 -- What a command that stops answers: its status, the line that it writes, and the fault that it names.
 use Rattle.std.specs.Prelude.{ℕ, List, ⊤}
 use Rattle.outside_io.specs.Causes.{Rose}
-use Rattle.command_parts.specs.Lines.{usage_line, memory_line, list_fault_line, read_fault_line, write_fault_line, too_many_line, too_long_line, not_built_line, config_not_built_line, no_file_line, not_empty_line}
+use Rattle.command_parts.specs.Lines.{usage_line, memory_line, list_fault_line, read_fault_line, write_fault_line, too_many_line, too_long_line, config_not_built_line, no_file_line, not_empty_line}
 use Rattle.command_parts.specs.declared.stop.Stop.{Stop}
-use Rattle.command_parts.specs.declared.stop.Stop.TheVariants.{Usage, ListFault, ReadFault, WriteFault, TooManyFiles, FileTooLong, NotBuilt, ConfigNotBuilt, NoFile, NotEmpty, Memory}
+use Rattle.command_parts.specs.declared.stop.Stop.TheVariants.{Usage, ListFault, ReadFault, WriteFault, TooManyFiles, FileTooLong, NotLoaded, ConfigNotBuilt, NoFile, NotEmpty, Memory}
 
 abbrev pub status_of : Stop → ℕ
 status_of Usage = 1
@@ -12,7 +12,7 @@ status_of (ReadFault path) = 3
 status_of (WriteFault path) = 4
 status_of (TooManyFiles dir) = 10
 status_of (FileTooLong path) = 10
-status_of (NotBuilt path) = 2
+status_of (NotLoaded line) = 2
 status_of ConfigNotBuilt = 2
 status_of (NoFile path) = 2
 status_of (NotEmpty dir) = 2
@@ -25,7 +25,7 @@ line_of (ReadFault path) = read_fault_line path
 line_of (WriteFault path) = write_fault_line path
 line_of (TooManyFiles dir) = too_many_line dir
 line_of (FileTooLong path) = too_long_line path
-line_of (NotBuilt path) = not_built_line path
+line_of (NotLoaded line) = line
 line_of ConfigNotBuilt = config_not_built_line
 line_of (NoFile path) = no_file_line path
 line_of (NotEmpty dir) = not_empty_line dir
@@ -39,7 +39,7 @@ HasCause (ReadFault path) r s v w = Rose r s
 HasCause (WriteFault path) r s v w = Rose v w
 HasCause (TooManyFiles dir) r s v w = ⊤
 HasCause (FileTooLong path) r s v w = ⊤
-HasCause (NotBuilt path) r s v w = ⊤
+HasCause (NotLoaded line) r s v w = ⊤
 HasCause ConfigNotBuilt r s v w = ⊤
 HasCause (NoFile path) r s v w = ⊤
 HasCause (NotEmpty dir) r s v w = ⊤

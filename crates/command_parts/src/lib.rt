@@ -4,6 +4,7 @@
 
 mod laws;
 mod lines;
+mod load_lines;
 mod look;
 mod reading;
 mod stop;
@@ -11,6 +12,7 @@ mod write;
 
 pub use laws::written_class_files;
 pub use lines::tell;
+pub use load_lines::load_line;
 pub use look::{read_named, see_empty};
 pub use reading::class_files;
 pub use stop::Stop;

@@ -14,11 +14,11 @@ const USAGE: &str =
 #[derive(Clone, Copy)]
 struct Line<'a> {
     front: &'static str,
-    name: &'a str,
+    name: &'a [u8],
     end: &'static str,
 }
 
-fn parts<'a>(front: &'static str, name: &'a str, end: &'static str) -> Line<'a>
+fn parts<'a>(front: &'static str, name: &'a [u8], end: &'static str) -> Line<'a>
     ensures front { result.front.now ≡ front.now }
     ensures name { result.name.now ≡ name.now }
     ensures end { result.end.now ≡ end.now }
@@ -31,17 +31,17 @@ fn line_of(stop: &Stop) -> Line<'_>
     ensures { result.front.now ++ result.name.now ++ result.end.now ≡ told.line_of stop.now }
 {
     match stop {
-        Stop::Usage => parts(USAGE, "", "\n"),
-        Stop::ListFault(dir) => parts("read fault: list ", dir.as_str(), "\n"),
-        Stop::ReadFault(path) => parts("read fault: ", path.as_str(), "\n"),
-        Stop::WriteFault(path) => parts("write fault: ", path.as_str(), "\n"),
-        Stop::TooManyFiles(dir) => parts("too many files: ", dir.as_str(), "\n"),
-        Stop::FileTooLong(path) => parts("file too long: ", path.as_str(), "\n"),
-        Stop::NotBuilt(path) => parts("refused: ", path.as_str(), ": not built\n"),
-        Stop::ConfigNotBuilt => parts("refused: config: not built", "", "\n"),
-        Stop::NoFile(path) => parts("refused: no file: ", path.as_str(), "\n"),
-        Stop::NotEmpty(dir) => parts("refused: not empty: ", dir.as_str(), "\n"),
-        Stop::Memory => parts("out of memory", "", "\n"),
+        Stop::Usage => parts(USAGE, &[], "\n"),
+        Stop::ListFault(dir) => parts("read fault: list ", dir.as_str().as_bytes(), "\n"),
+        Stop::ReadFault(path) => parts("read fault: ", path.as_str().as_bytes(), "\n"),
+        Stop::WriteFault(path) => parts("write fault: ", path.as_str().as_bytes(), "\n"),
+        Stop::TooManyFiles(dir) => parts("too many files: ", dir.as_str().as_bytes(), "\n"),
+        Stop::FileTooLong(path) => parts("file too long: ", path.as_str().as_bytes(), "\n"),
+        Stop::NotLoaded(line) => parts("", line.as_slice(), ""),
+        Stop::ConfigNotBuilt => parts("refused: config: not built", &[], "\n"),
+        Stop::NoFile(path) => parts("refused: no file: ", path.as_str().as_bytes(), "\n"),
+        Stop::NotEmpty(dir) => parts("refused: not empty: ", dir.as_str().as_bytes(), "\n"),
+        Stop::Memory => parts("out of memory", &[], "\n"),
     }
 }
 
@@ -51,7 +51,7 @@ fn status_of(stop: &Stop) -> u8
 {
     match stop {
         Stop::Usage => 1,
-        Stop::NotBuilt(_) | Stop::ConfigNotBuilt | Stop::NoFile(_) | Stop::NotEmpty(_) => 2,
+        Stop::NotLoaded(_) | Stop::ConfigNotBuilt | Stop::NoFile(_) | Stop::NotEmpty(_) => 2,
         Stop::ListFault(_) | Stop::ReadFault(_) => 3,
         Stop::WriteFault(_) => 4,
         Stop::Memory => 5,
@@ -60,10 +60,10 @@ fn status_of(stop: &Stop) -> u8
 }
 
 /// Writes one piece of a line.
-fn say<E: ByteSink>(err: &mut E, text: &str) -> bool
+fn say<E: ByteSink>(err: &mut E, text: &[u8]) -> bool
     ensures { Says (E.held err.old) (E.held err.new) (E.faults err.old) (E.faults err.new) text.now result }
 {
-    err.write(text.as_bytes()).is_ok()
+    err.write(text).is_ok()
 }
 
 /// Writes a line piece by piece, until a piece fails.
@@ -71,7 +71,7 @@ fn say_line<E: ByteSink>(err: &mut E, line: Line<'_>) -> bool
     ensures { Says (E.held err.old) (E.held err.new) (E.faults err.old) (E.faults err.new)
         (line.entry.front.now ++ line.entry.name.now ++ line.entry.end.now) result }
 {
-    say(err, line.front) && say(err, line.name) && say(err, line.end)
+    say(err, line.front.as_bytes()) && say(err, line.name) && say(err, line.end.as_bytes())
 }
 
 /// Writes the line of a stop and answers its status, or 4 where the line could not be written whole.

@@ -3,7 +3,7 @@
 ghost use Rattle.std.specs.Prelude.{◌≡◌};
 ghost use Rattle.command_parts.specs.declared.stop.Stop.TheVariants.{Memory};
 
-use lists::Path;
+use lists::{Bytes, Path};
 use std::alloc::{AllocError, AllocFailed};
 
 /// Why a command ended before its work was done, with what its line names. A path is whole in a
@@ -22,8 +22,8 @@ pub enum Stop {
     TooManyFiles(Path),
     /// A file holds more bytes than are read.
     FileTooLong(Path),
-    /// A class file is of a form that is not built yet.
-    NotBuilt(Path),
+    /// The class files do not load. With the line that says why.
+    NotLoaded(Bytes),
     /// The lists are of a form that is not built yet.
     ConfigNotBuilt,
     /// A file that was to be read is not there.

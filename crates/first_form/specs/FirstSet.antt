@@ -1,8 +1,7 @@
 -- The sets and the lists of sources and sinks that are instrumented so far. This project's own.
-use Rattle.std.specs.Prelude.{◌≡◌, ℤ, List, [], ◌∷◌, ◌⊎◌, codes}
+use Rattle.std.specs.Prelude.{◌≡◌, ℤ, pos, negsuc, ◌≤ℤ◌, List, [], ◌∷◌, ◌⊎◌, codes}
 use Rattle.lists.specs.Texts.{units_of}
 use Rattle.class_model.specs.declared.class.ClassDef.{ClassDef}
-use Rattle.class_grammar.specs.Built.{IsShort, IsBuilt}
 use Rattle.run_state.specs.declared.config.Config.{Config}
 use Rattle.run_state.specs.declared.config.Source.{Source}
 use Rattle.run_state.specs.declared.config.Sink.{Sink}
@@ -11,9 +10,14 @@ use Rattle.first_form.specs.Natives.{native_name, gives_int, takes_int}
 use Rattle.first_form.specs.FormOne.{FormOne}
 use Rattle.first_form.specs.Base.{small_base}
 
--- the small base, or one class of the form before it, which was read from bytes
+-- the small base, or one class of the form before it
 abbrev pub IsFirstSet : List ClassDef → Type 0
-IsFirstSet set = (set ≡ small_base) ⊎ ((class : ClassDef) × (set ≡ class ∷ small_base) × FormOne names.Source class × IsBuilt class)
+IsFirstSet set = (set ≡ small_base) ⊎ ((class : ClassDef) × (set ≡ class ∷ small_base) × FormOne names.Source class)
+
+-- a number that two bytes hold with their sign
+pub record IsShort (n : ℤ) : Type 0 where
+  pub low : negsuc 32767 ≤ℤ n
+  pub high : n ≤ℤ pos 32767
 
 -- `sys/Native.read()I` as a source
 abbrev pub read_source : (tag : ℤ) → Source

@@ -7,7 +7,7 @@ use Rattle.class_model.specs.declared.insn.Insn.TheVariants.{Return}
 use Rattle.class_model.specs.declared.class.CodeDef.{CodeDef}
 use Rattle.class_model.specs.declared.class.MethodDef.{MethodDef}
 use Rattle.class_model.specs.declared.class.ClassDef.{ClassDef}
-use Rattle.class_grammar.specs.Sizes.{code_bytes}
+use Rattle.class_limits.specs.Sizes.{code_size}
 use Rattle.first_form.specs.declared.frame.IntFrame.{IntFrame}
 use Rattle.first_form.specs.declared.names.Names.{Names}
 use Rattle.first_form.specs.declared.names.Names.TheVariants.{Source, Written}
@@ -54,7 +54,7 @@ pub record IsStraight (names : Names) (code : CodeDef) : Type 0 where
 -- what a user's class keeps to besides, so that no limit can be passed as it is rewritten
 pub record IsSmall (name : List ℕ) (code : CodeDef) : Type 0 where
   pub named : IsUserName name
-  pub few_bytes : code_bytes code.insns ≤ 1000
+  pub few_bytes : code_size code ≤ 1000
   pub few_locals : code.max_locals ≤ 100
   pub few_words : code.max_stack ≤ 100
 

@@ -2,6 +2,7 @@
 use Rattle.std.specs.Prelude.{◌≡◌, ℕ, ◌≤◌, ◌==◌, ◌&&◌, ◌||◌, ◌⊎◌, not, nat_le, Bool, IsTrue, List, ◌++◌, length, drop, codes}
 use Rattle.std.specs.List.{slice_split, list_all}
 use Rattle.lists.specs.Texts.{units_of}
+use Rattle.modified_utf8.specs.Text.{text_bytes}
 use Rattle.first_form.specs.Natives.{native_name}
 
 abbrev pub object_name : List ℕ
@@ -40,9 +41,9 @@ IsReserved name = HasAt reserved_front name 0 ⊎ ((place : ℕ) × HasAt reserv
 abbrev pub IsBaseName : List ℕ → Type 0
 IsBaseName name = (name ≡ object_name) ⊎ (name ≡ string_name) ⊎ (name ≡ native_name)
 
--- the name of a user's class; each of its units is one byte, as far as texts are read
+-- the name of a user's class, with its bytes in a class file (JVMS 4.4.7)
 pub record IsUserName (name : List ℕ) : Type 0 where
   pub class_name : IsTrue (is_class_name name)
   pub not_reserved : IsReserved name → ⊥
   pub no_base : IsBaseName name → ⊥
-  pub few_bytes : length name ≤ 16000
+  pub few_bytes : length (text_bytes name) ≤ 16000

@@ -6,12 +6,13 @@ use Rattle.class_model.specs.declared.types.BaseType.TheVariants as bases
 use Rattle.class_model.specs.declared.types.JType.{JType}
 use Rattle.class_model.specs.declared.insn.Kind.TheVariants as kinds
 use Rattle.class_model.specs.declared.insn.Width.TheVariants as widths
+use Rattle.class_model.specs.declared.insn.BinOp.{BinOp}
+use Rattle.class_model.specs.declared.insn.BinOp.TheVariants.{Add, And, Or, Xor}
 use Rattle.class_model.specs.declared.insn.StackOp.TheVariants as stacks
 use Rattle.class_model.specs.declared.insn.InvokeKind.TheVariants as invokes
 use Rattle.class_model.specs.declared.insn.Insn.{Insn}
 use Rattle.class_model.specs.declared.insn.Insn.TheVariants.{PushInt, Load, Store, Stack, Bin, Invoke}
 use Rattle.class_model.specs.declared.types.MethodRef.{MethodRef}
-use Rattle.class_grammar.specs.Built.{IsBuiltOp}
 use Rattle.first_form.specs.declared.frame.IntFrame.{IntFrame}
 use Rattle.first_form.specs.declared.names.Names.{Names}
 use Rattle.first_form.specs.declared.names.Names.TheVariants.{Source, Written}
@@ -19,6 +20,14 @@ use Rattle.first_form.specs.declared.natives.Native.{Native}
 use Rattle.first_form.specs.declared.natives.Native.TheVariants.{Read, Write, Report}
 use Rattle.first_form.specs.Natives.{ref_of}
 use Rattle.first_form.specs.Naming.{string_name}
+
+-- the operations of two ints that are instrumented so far
+abbrev pub IsFirstOp : BinOp → Type 0
+IsFirstOp Add = Unit {0}
+IsFirstOp And = Unit {0}
+IsFirstOp Or = Unit {0}
+IsFirstOp Xor = Unit {0}
+IsFirstOp _ = ⊥
 
 -- the type `String[]`
 abbrev pub words_type : JType
@@ -69,7 +78,7 @@ Types names max_stack (PushInt number) f g = Pushes max_stack f g
 Types names max_stack (Load kinds.Int slot) f g = LoadsInt max_stack slot f g
 Types names max_stack (Store kinds.Int slot) f g = StoresInt slot f g
 Types names max_stack (Stack stacks.Pop) f g = Pops 1 f g
-Types names max_stack (Bin widths.Int op) f g = IsBuiltOp op × JoinsInts f g
+Types names max_stack (Bin widths.Int op) f g = IsFirstOp op × JoinsInts f g
 Types names max_stack (Invoke invokes.Static method) f g = Invokes names max_stack method f g
 Types names max_stack _ f g = ⊥
 

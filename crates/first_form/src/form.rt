@@ -2,14 +2,14 @@
 
 ghost use Rattle.std.specs.Prelude.{◌≡◌, ◌≢◌, ◌≤◌, [], ◌∷◌, Some, ◌↔◌, IsTrue, IfOk, MatchOption};
 ghost use Rattle.class_model.specs.declared.class.CodeDef.{CodeDef};
-ghost use Rattle.class_grammar.specs.Sizes as sizes;
 ghost use Rattle.first_form.specs.Naming.{object_name};
 ghost use Rattle.first_form.specs.Typing as typing;
 ghost use Rattle.first_form.specs.FormOne as spec;
 
 use crate::names::{Names, is_user_name};
 use crate::straight::is_straight;
-use class_model::{BaseType, ClassDef, CodeDef, Insn, JType, MethodDef, MethodDesc};
+use class_limits::code_size;
+use class_model::{BaseType, ClassDef, CodeDef, JType, MethodDef, MethodDesc};
 use lists::Name;
 use std::alloc::{AllocError, Global};
 
@@ -93,45 +93,6 @@ fn has_form_header(class: &ClassDef) -> bool
         && class.inner.is_empty()
 }
 
-/// The bytes that an instruction takes in its shortest spelling.
-fn insn_bytes(insn: &Insn) -> u64
-    ensures { result ≡ sizes.insn_bytes insn.now }
-{
-    match insn {
-        Insn::PushInt(-1..=5) => 1,
-        Insn::PushInt(-128..=127) => 2,
-        Insn::PushInt(_) | Insn::Invoke(_, _) => 3,
-        Insn::Load(_, slot) | Insn::Store(_, slot) => local_bytes(*slot),
-        _ => 1,
-    }
-}
-
-/// The bytes of a load or a store of this local.
-fn local_bytes(slot: u16) -> u64
-    ensures { result ≡ sizes.local_bytes slot }
-{
-    match slot {
-        0..=3 => 1,
-        4..=255 => 2,
-        _ => 4,
-    }
-}
-
-/// Whether the shortest spelling of instructions has few enough bytes for a user's class.
-#[tactic(auto, unfolding(class_grammar::specs::Sizes::code_bytes))]
-fn is_short_code(insns: &[Insn]) -> bool
-    ensures { IsTrue result ↔ (sizes.code_bytes insns.now ≤ 1000) }
-{
-    let mut bytes = 0u64;
-    for insn in insns {
-        bytes += insn_bytes(insn);
-        if bytes > MOST_CODE_BYTES {
-            return false;
-        }
-    }
-    true
-}
-
 /// Whether a name and code are those of a user's class that no limit refuses.
 fn is_small(name: &Name, code: &CodeDef) -> bool
     ensures { IsTrue result ↔ spec.IsSmall name.now code.now }
@@ -139,7 +100,7 @@ fn is_small(name: &Name, code: &CodeDef) -> bool
     code.max_locals <= MOST_SLOTS
         && code.max_stack <= MOST_SLOTS
         && is_user_name(name)
-        && is_short_code(code.insns.as_slice())
+        && code_size(code) <= MOST_CODE_BYTES
 }
 
 /// Whether a name and code keep to what is asked beside the form.

@@ -4,6 +4,7 @@ ghost use Rattle.std.specs.Prelude.{◌≡◌, ℕ, ◌<◌, ◌++◌, List, len
 ghost use Rattle.std.specs.List.{list_all};
 ghost use Rattle.first_form.specs.Naming as spec;
 
+use class_limits::text_size;
 use lists::Name;
 
 /// Whose names the classes of a set have.
@@ -15,8 +16,8 @@ pub enum Names {
     Written,
 }
 
-/// The most bytes of the name of a user's class. Each unit is one byte, as far as texts are read.
-const MOST_NAME_BYTES: usize = 16_000;
+/// The most bytes of the name of a user's class.
+const MOST_NAME_BYTES: u64 = 16_000;
 
 /// The units of `phosphor/`, with which no class name of a user begins.
 const RESERVED_FRONT: [u16; 9] = [112, 104, 111, 115, 112, 104, 111, 114, 47];
@@ -92,5 +93,8 @@ pub(crate) fn is_user_name(name: &Name) -> bool
     ensures { IsTrue result ↔ spec.IsUserName name.now }
 {
     let units = name.as_units();
-    units.len() <= MOST_NAME_BYTES && is_class_name(units) && !is_reserved(units) && !is_base(name)
+    text_size(units) <= MOST_NAME_BYTES
+        && is_class_name(units)
+        && !is_reserved(units)
+        && !is_base(name)
 }

@@ -4,7 +4,6 @@ ghost use Rattle.std.specs.Prelude.{◌≡◌, ◌≢◌, [], ◌∷◌, ◌++�
 ghost use Rattle.class_model.specs.declared.insn.Insn.{Insn};
 ghost use Rattle.class_model.specs.declared.insn.Insn.TheVariants.{Load, Store, Bin, Invoke, Return};
 ghost use Rattle.first_form.specs.Typing as spec;
-ghost use Rattle.class_grammar.specs.Built.{IsBuiltOp};
 ghost use Rattle.first_form.specs.Stepping.{Follows};
 ghost use Rattle.first_form.specs.FormOne.{IsStraight};
 
@@ -125,7 +124,7 @@ impl IntFrame {
         ensures { Follows result (spec.Types rules.names rules.max_stack (Bin width op) self.old) self.new }
     {
         match width {
-            Width::Int => is_built_operation(op) && self.join_ints(),
+            Width::Int => is_first_operation(op) && self.join_ints(),
             Width::Long => false,
         }
     }
@@ -141,8 +140,8 @@ impl IntFrame {
 }
 
 /// Whether an operation on two ints is of the form.
-fn is_built_operation(op: BinOp) -> bool
-    ensures { IsTrue result ↔ IsBuiltOp op }
+fn is_first_operation(op: BinOp) -> bool
+    ensures { IsTrue result ↔ spec.IsFirstOp op }
 {
     matches!(op, BinOp::Add | BinOp::And | BinOp::Or | BinOp::Xor)
 }

@@ -19,7 +19,6 @@ use Rattle.first_form.specs.Natives.{native_name, report_name}
 use Rattle.first_form.specs.Naming.{object_name, string_name}
 use Rattle.first_form.specs.FormOne.{main_method, FormOne}
 use Rattle.first_form.specs.Base.{object_class, string_class, native_class, small_base, report_class}
-use Rattle.class_grammar.specs.Built.{IsBuilt}
 use Rattle.first_form.specs.FirstSet.{IsFirstSet, IsFirstConfig}
 use Rattle.instrument_set.specs.declared.marks.Marks.{Marks}
 use Rattle.instrument_set.specs.Marking.{marks_of}
@@ -256,7 +255,7 @@ pub mirrors : (set : List ClassDef) (config : Config) → IsFirstSet set → IsF
 mirrors set config first lists =
     ⊎_elim
     (λ (e : set ≡ small_base). subst (λ (s : List ClassDef). Mirrors s config (written_set (marks_of config) s)) (sym e) (base_mirrors config (written_set (marks_of config) small_base)))
-    (λ (q : (class : ClassDef) × (set ≡ class ∷ small_base) × FormOne Source class × IsBuilt class).
+    (λ (q : (class : ClassDef) × (set ≡ class ∷ small_base) × FormOne Source class).
     subst (λ (s : List ClassDef). Mirrors s config (written_set (marks_of config) s)) (sym q.1)
     (subst (λ (w : List ClassDef). Mirrors (q.0 ∷ small_base) config w) (sym (written_one (marks_of config) q.0)) (class_mirrors config lists q.0 q.2)))
     first
@@ -267,6 +266,6 @@ unfolding small_base
 user_fits set class first long is =
     ⊎_elim
     (λ (e : set ≡ small_base). absurd (let q = ap (λ (s : List ClassDef). length s) e in omega arith))
-    (λ (q : (class : ClassDef) × (set ≡ class ∷ small_base) × FormOne Source class × IsBuilt class).
+    (λ (q : (class : ClassDef) × (set ≡ class ∷ small_base) × FormOne Source class).
     subst CanWriteClass (sym (is ∙ ap (λ (s : List ClassDef). get_or s 0 class) q.1)) (class_fits q.0 q.2))
     first

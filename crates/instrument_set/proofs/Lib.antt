@@ -16,7 +16,8 @@ pub mod Formed
 pub mod Loaded
 pub mod Paths
 pub mod PathOrder
-pub mod BaseBuilt
-pub mod WrittenBuilt
+pub mod Shape
+pub mod PathText
+pub mod Limits
+pub mod PoolRoom
 pub mod Filed
-pub mod Sizes

@@ -12,7 +12,6 @@ use Rattle.first_form.specs.Natives.{native_name, report_name}
 use Rattle.first_form.specs.Naming.{object_name, string_name}
 use Rattle.first_form.specs.FormOne.{FormOne}
 use Rattle.first_form.specs.Base.{object_class, string_class, native_class, small_base, report_class}
-use Rattle.class_grammar.specs.Built.{IsBuilt}
 use Rattle.first_form.specs.FirstSet.{IsFirstSet}
 use Rattle.set_loader.specs.declared.file.File.{File}
 use Rattle.set_loader.specs.Loads as loads
@@ -145,7 +144,7 @@ set_loadable : (marks : Marks) (set : List ClassDef) → IsFirstSet set → Load
 set_loadable marks set first =
     ⊎_elim
     (λ (e : set ≡ small_base). subst (λ (s : List ClassDef). Loadable (written_set marks s)) (sym e) (subst Loadable (sym (base_alone marks)) base_loadable))
-    (λ (q : (class : ClassDef) × (set ≡ class ∷ small_base) × FormOne Source class × IsBuilt class).
+    (λ (q : (class : ClassDef) × (set ≡ class ∷ small_base) × FormOne Source class).
     subst (λ (s : List ClassDef). Loadable (written_set marks s)) (sym q.1) (subst Loadable (sym (written_one marks q.0)) (class_loadable marks q.0 q.2)))
     first
 

@@ -7,7 +7,6 @@ use Rattle.std.specs.Int.Bits.{or_zero_l}
 use Rattle.std.proofs.lemmas.Int.{to_z-of_z, ints}
 use Rattle.class_model.specs.declared.class.ClassDef.{ClassDef}
 use Rattle.class_model.specs.declared.class.CodeDef.{CodeDef}
-use Rattle.class_grammar.specs.Built.{IsShort}
 use Rattle.run_state.specs.declared.config.Config.{Config}
 use Rattle.run_state.specs.declared.config.Source.{Source}
 use Rattle.run_state.specs.declared.config.Sink.{Sink}
@@ -18,7 +17,7 @@ use Rattle.run_state.specs.Tags.{tagged, is_source, is_sink, marked_by, reported
 use Rattle.run_state.specs.SetLooks.{method_of}
 use Rattle.first_form.specs.Natives.{native_name}
 use Rattle.first_form.specs.FormOne.{main_method}
-use Rattle.first_form.specs.FirstSet.{read_source, write_sink, IsFirstConfig}
+use Rattle.first_form.specs.FirstSet.{read_source, write_sink, IsFirstConfig, IsShort}
 use Rattle.instrument_set.specs.Marking.{read_tag, is_listed, marks_of}
 use Rattle.instrument_set.proofs.Natives.{callee_of}
 use Rattle.instrument_set.proofs.Looking.{same_text_other}

@@ -11,7 +11,9 @@ use Rattle.std.specs.declared.cmp.Ordering.TheVariants.{Less, Equal, Greater}
 use Rattle.std.proofs.lemmas.Bool.Decides.{Decides-eqb}
 use Rattle.std.proofs.lemmas.List.{append_cancel_right}
 use Rattle.std.proofs.lemmas.List.Elements.{All-from_recursion}
+use Rattle.std.proofs.Math.Utf8.{encode, encodes}
 use Rattle.std.proofs.lemmas.Map.Lookups.{exact_bytes}
+use Rattle.std.proofs.lemmas.Str.{encodes_same}
 use Rattle.std.proofs.lemmas.Slice.Eq.{ends_is}
 use Rattle.class_model.specs.declared.class.ClassDef.{ClassDef}
 use Rattle.first_form.specs.declared.names.Names.TheVariants.{Source}
@@ -42,7 +44,7 @@ abbrev IsClassPath : List ℕ → Type 0
 IsClassPath path = ends_with nat_eq path (codes ".class") ≡ true
 
 class_path : (name : List ℕ) → IsClassPath (path_of name)
-class_path name = (ends_is Decides-eqb (path_of name) (codes ".class") _ refl).1 name refl
+class_path name = (ends_is Decides-eqb (path_of name) (codes ".class") _ refl).1 (encodes name) refl
 
 class_paths_by : (set : List ClassDef) → AllByRecursion IsClassPath (written_paths set)
 class_paths_by [] = (class_path report_name, tt)
@@ -85,14 +87,14 @@ ascend_inserted p [] apart ascend = (tt, tt)
 ascend_inserted p (q ∷ qs) apart ascend = ascend_either (is_lt (in_order p q)) p q qs refl apart.0 ascend (ascend_inserted p qs apart.1 ascend.1)
 
 base_ascends : Ascend (written_paths small_base)
-unfolding chars small_base report_class IsStrictlySortedBy
+unfolding chars encode small_base report_class IsStrictlySortedBy
 base_ascends = ((refl, (refl, (refl, tt))), ((refl, (refl, tt)), ((refl, tt), (tt, tt))))
 
 other_path : (a b : List ℕ) → a ≢ b → path_of a ≢ path_of b
-other_path a b apart = λ same. apart (append_cancel_right a b (codes ".class") same)
+other_path a b apart = λ same. apart (encodes_same a b (append_cancel_right (encodes a) (encodes b) (codes ".class") same))
 
 class_apart : (class : ClassDef) → FormOne Source class → AllByRecursion (λ q. path_of class.name ≢ q) (written_paths small_base)
-unfolding chars small_base report_class
+unfolding chars encode small_base report_class
 class_apart class form = (
   other_path class.name object_name (not_object class form),
   (

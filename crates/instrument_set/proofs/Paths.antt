@@ -2,11 +2,11 @@
 use Rattle.std.proofs.Common.{◌≡◌, ℕ, Bool, true, false, List, [], ◌∷◌, refl, sym, ap, ◌∙◌, subst, ⊎_elim}
 use Rattle.std.specs.Prelude.{cond, map}
 use Rattle.std.specs.Str.{chars}
+use Rattle.std.proofs.Math.Utf8.{encode}
 use Rattle.class_model.specs.declared.class.ClassDef.{ClassDef}
 use Rattle.first_form.specs.declared.names.Names.TheVariants.{Source}
 use Rattle.first_form.specs.FormOne.{FormOne}
 use Rattle.first_form.specs.Base.{small_base, report_class}
-use Rattle.class_grammar.specs.Built.{IsBuilt}
 use Rattle.first_form.specs.FirstSet.{IsFirstSet}
 use Rattle.instrument_set.specs.declared.marks.Marks.{Marks}
 use Rattle.instrument_set.specs.Written.{written_class}
@@ -28,7 +28,7 @@ path_inserted d [] = refl
 path_inserted d (e ∷ es) = path_either (comes_before d e) d e es (insert_class d es) (insert_path (path_of d.name) (paths_of es)) (path_inserted d es)
 
 base_paths : paths_of written_base ≡ written_paths small_base
-unfolding chars small_base report_class
+unfolding chars encode small_base report_class
 base_paths = refl
 
 -- the written classes stand at the paths of the set
@@ -36,7 +36,7 @@ pub set_paths : (marks : Marks) (set : List ClassDef) → IsFirstSet set → map
 set_paths marks set first =
     ⊎_elim
     (λ (e : set ≡ small_base). subst (λ (s : List ClassDef). paths_of (written_set marks s) ≡ written_paths s) (sym e) (ap paths_of (base_alone marks) ∙ base_paths))
-    (λ (q : (class : ClassDef) × (set ≡ class ∷ small_base) × FormOne Source class × IsBuilt class).
+    (λ (q : (class : ClassDef) × (set ≡ class ∷ small_base) × FormOne Source class).
     subst (λ (s : List ClassDef). paths_of (written_set marks s) ≡ written_paths s) (sym q.1)
     (ap paths_of (written_one marks q.0) ∙ path_inserted (written_class marks q.0) written_base ∙ ap (λ (ps : List (List ℕ)). insert_path (path_of q.0.name) ps) base_paths))
     first

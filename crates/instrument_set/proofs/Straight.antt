@@ -17,14 +17,13 @@ use Rattle.class_model.specs.declared.insn.BinOp.{BinOp}
 use Rattle.class_model.specs.declared.insn.BinOp.TheVariants as operation
 use Rattle.class_model.specs.declared.insn.Insn.{Insn}
 use Rattle.class_model.specs.declared.insn.Insn.TheVariants.{PushInt, Load, Store, Stack, Bin, Return, Invoke}
-use Rattle.class_grammar.specs.Built.{IsBuiltOp}
 use Rattle.run_state.specs.Natives as machine
 use Rattle.first_form.specs.declared.frame.IntFrame.{IntFrame}
 use Rattle.first_form.specs.declared.names.Names.TheVariants.{Source}
 use Rattle.first_form.specs.declared.natives.Native.{Native}
 use Rattle.first_form.specs.declared.natives.Native.TheVariants.{Read, Write, Report}
 use Rattle.first_form.specs.Natives as form
-use Rattle.first_form.specs.Typing.{Types, Runs, Calls, first_frame}
+use Rattle.first_form.specs.Typing.{Types, Runs, Calls, first_frame, IsFirstOp}
 use Rattle.first_form.specs.FormOne.{main_method, IsStraight, FormOne}
 use Rattle.instrument_set.specs.Pieces.{after, Fits, AllFit}
 use Rattle.instrument_set.specs.Written.{CanWriteCode, CanWriteMethod, CanWriteClass}
@@ -32,7 +31,7 @@ use Rattle.instrument_set.proofs.Natives.{ref_of}
 use Rattle.instrument_set.proofs.SlotLaws.{length_set}
 use Rattle.instrument_set.proofs.Fine.{NeverFails, Fine, FallsOn, depths, AreFine}
 
-never_fails : (op : BinOp) → IsBuiltOp op → NeverFails op
+never_fails : (op : BinOp) → IsFirstOp op → NeverFails op
 never_fails operation.Add h = tt
 never_fails operation.And h = tt
 never_fails operation.Or h = tt

@@ -15,13 +15,12 @@ use Rattle.class_model.specs.declared.insn.BinOp.{BinOp}
 use Rattle.class_model.specs.declared.insn.BinOp.TheVariants as operation
 use Rattle.class_model.specs.declared.insn.Insn.{Insn}
 use Rattle.class_model.specs.declared.insn.Insn.TheVariants.{PushInt, Load, Store, Stack, Bin, Return, Invoke}
-use Rattle.class_grammar.specs.Built.{IsBuiltOp}
 use Rattle.first_form.specs.declared.frame.IntFrame.{IntFrame}
 use Rattle.first_form.specs.declared.names.Names.TheVariants.{Source, Written}
 use Rattle.first_form.specs.declared.natives.Native.{Native}
 use Rattle.first_form.specs.declared.natives.Native.TheVariants.{Read, Write, Report}
 use Rattle.first_form.specs.Natives as form
-use Rattle.first_form.specs.Typing.{Types, Runs, Calls, first_frame, words_type}
+use Rattle.first_form.specs.Typing.{Types, Runs, Calls, first_frame, words_type, IsFirstOp}
 use Rattle.first_form.specs.FormOne.{IsStraight}
 use Rattle.instrument_set.specs.declared.marks.Marks.{Marks}
 use Rattle.instrument_set.specs.Pieces.{report_ref, local_tag, word_tag, load, store, piece_of, pieces, after}
@@ -153,7 +152,7 @@ module _ (locals words : ℕ) where
     record { sized = ap length same ∙ wide.sized; low = omega (arith, wide.low); room = wide.room; depth = refl; ints = λ i h. wide.ints i (subst (λ (ls : List VType). IsInt ls i) same h); tags = wide.tags },
   )
 
-  join_typed : (op : BinOp) (f f1 g : IntFrame) → IsBuiltOp op → 1 ≤ f1.depth → f.depth ≡ f1.depth + 1 → f1.locals ≡ f.locals → Widened locals words f g
+  join_typed : (op : BinOp) (f f1 g : IntFrame) → IsFirstOp op → 1 ≤ f1.depth → f.depth ≡ f1.depth + 1 → f1.locals ≡ f.locals → Widened locals words f g
       → Leads locals words (Bin width.Int op ∷ load (word_tag locals (f.depth - 2)) ∷ load (word_tag locals (f.depth - 1)) ∷ Bin width.Int operation.Or ∷ store (word_tag locals (f.depth - 2)) ∷ []) f1 g
   join_typed op f f1 g built some shallower same wide =
       let k = word_tag locals (f.depth - 2) in

@@ -1,5 +1,6 @@
 -- The written set of a set of the first form, in the order of its paths. This project's own.
-use Rattle.std.specs.Prelude.{ℕ, Bool, List, [], ◌∷◌, ◌++◌, codes, if◌then◌else◌}
+use Rattle.std.specs.Prelude.{◌≡◌, ℕ, ◌&&◌, nat_le, Bool, false, List, [], ◌∷◌, ◌++◌, All, codes, if◌then◌else◌}
+use Rattle.std.proofs.Math.Utf8.{encodes}
 use Rattle.std.specs.Ordering.{nat_cmp, is_lt}
 use Rattle.std.specs.Cmp.Lexicographic.{slice_cmp}
 use Rattle.class_model.specs.declared.class.ClassDef.{ClassDef}
@@ -7,9 +8,17 @@ use Rattle.first_form.specs.Base.{object_class, string_class, native_class, repo
 use Rattle.instrument_set.specs.declared.marks.Marks.{Marks}
 use Rattle.instrument_set.specs.Written.{written_class}
 
--- the path of a class of this name; each of its units is one byte, as far as texts are written
+-- the path of a class of this name, none of whose units is a surrogate: the name in UTF-8
 abbrev pub path_of : List ℕ → List ℕ
-path_of name = name ++ codes ".class"
+path_of name = encodes name ++ codes ".class"
+
+-- half of a character past the 16-bit range
+abbrev pub is_surrogate : ℕ → Bool
+is_surrogate unit = nat_le 0xD800 unit && nat_le unit 0xDFFF
+
+-- a name each of whose units is a character
+abbrev pub IsPlain : List ℕ → Type 0
+IsPlain name = All (λ unit. is_surrogate unit ≡ false) name
 
 -- whether a class comes before another, by the bytes of their paths
 abbrev pub comes_before : ClassDef → ClassDef → Bool

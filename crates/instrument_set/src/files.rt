@@ -1,43 +1,31 @@
 //! The written files of a set.
 
-ghost use Rattle.std.specs.Prelude.{◌≡◌, ◌<◌, All, IfOk, map};
+ghost use Rattle.std.specs.Prelude.{◌≡◌, All, IfOk, None, map};
 ghost use Rattle.std.specs.List.{AllZip};
-ghost use Rattle.class_grammar.specs.Built.{IsBuilt};
-ghost use Rattle.class_grammar.specs.Sizes.{FitsSizes};
+ghost use Rattle.class_shape.specs.Shaped.{Shaped};
+ghost use Rattle.class_encoding.specs.Encoding.{limit_of};
 ghost use Rattle.first_form.specs.FirstSet.{IsFirstSet, IsFirstConfig};
 ghost use Rattle.instrument_set.specs.ClassFile.{IsClassFile};
 ghost use Rattle.instrument_set.specs.Mirrors.{IsInstrumented};
 ghost use Rattle.instrument_set.specs.WrittenPaths.{written_paths};
-ghost use Rattle.instrument_set.specs.WrittenSet as spec;
+ghost use Rattle.instrument_set.specs.WrittenSet.{IsPlain};
 
+use crate::class_path::path_of_class;
 use crate::set::rewrite_set;
 use class_codec::{EncodeStop, encode_class};
 use class_model::ClassDef;
-use lists::{Name, Path};
 use run_state::Config;
 use set_loader::File;
 use std::alloc::{AllocError, Global};
 
-/// The path of a class of this name, whose units are one byte each.
-fn class_path(alloc: Global, name: &Name) -> Result<Path, AllocError>
-    requires { All (λ unit. unit < 128) name.now }
-    ensures { IfOk result (λ path. path ≡ spec.path_of name.now) }
-{
-    let mut text = String::new(alloc);
-    for unit in name.as_units() {
-        text.push(*unit as u8 as char)?;
-    }
-    text.push_str(".class")?;
-    Ok(Path::from_string(text))
-}
-
-/// The class file of a class that passes no size of the format.
+/// The class file of a class that passes no limit of the format.
 fn class_file(alloc: Global, class: &ClassDef) -> Result<File, AllocError>
-    requires built { IsBuilt class.now }
-    requires fits { FitsSizes class.now }
+    requires plain { IsPlain class.now.name }
+    requires shaped { Shaped class.now }
+    requires fits { limit_of class.now ≡ None }
     ensures { IfOk result (λ file. IsClassFile file class.now) }
 {
-    let path = class_path(alloc, &class.name)?;
+    let path = path_of_class(alloc, &class.name)?;
     match encode_class(alloc, class) {
         Ok(bytes) => Ok(File { path, bytes }),
         Err(EncodeStop::Memory) => Err(AllocError),
@@ -47,8 +35,9 @@ fn class_file(alloc: Global, class: &ClassDef) -> Result<File, AllocError>
 
 /// The class file of each class, in their order.
 fn class_files(alloc: Global, classes: &[ClassDef]) -> Result<Vec<File>, AllocError>
-    requires built { All IsBuilt classes.now }
-    requires fit { All FitsSizes classes.now }
+    requires plain { All (λ class. IsPlain class.name) classes.now }
+    requires shaped { All Shaped classes.now }
+    requires fit { All (λ class. limit_of class ≡ None) classes.now }
     ensures { IfOk result (λ files. AllZip IsClassFile files.items classes.now) }
 {
     let mut files = Vec::new(alloc);

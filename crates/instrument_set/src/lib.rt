@@ -1,6 +1,7 @@
 //! Rewriting a set of classes, so that it computes tags beside its own work.
 #![tactic(auto)]
 
+mod class_path;
 mod files;
 mod laws;
 mod marks;

@@ -1,6 +1,6 @@
 //! The written set of a set of the first form.
 
-ghost use Rattle.std.specs.Prelude.{◌≡◌, ◌≤◌, List, length, insert, map, IfOk};
+ghost use Rattle.std.specs.Prelude.{◌≡◌, ◌≤◌, List, length, insert, map, All, IfOk};
 ghost use Rattle.std.specs.List.{AllZip};
 ghost use Rattle.first_form.specs.declared.names.Names.TheVariants as names;
 ghost use Rattle.first_form.specs.FirstSet.{IsFirstSet, IsFirstConfig};
@@ -11,16 +11,13 @@ ghost use Rattle.instrument_set.specs.Mirrors.{Mirrors};
 ghost use Rattle.instrument_set.specs.WrittenPaths.{written_paths};
 ghost use Rattle.instrument_set.specs.WrittenSet as spec;
 
+use crate::class_path::comes_before;
 use crate::marks::Marks;
 use crate::rewrite::rewrite_class;
 use class_model::ClassDef;
 use first_form::{report_class, small_base};
-use lists::Name;
 use run_state::Config;
 use std::alloc::{AllocError, Global};
-
-/// The units of `.class`.
-const PATH_END: [u16; 6] = [46, 99, 108, 97, 115, 115];
 
 /// What the lists say of `read` and `write`.
 fn marks(config: &Config) -> Marks
@@ -36,27 +33,10 @@ fn marks(config: &Config) -> Marks
     }
 }
 
-/// The units of the path of a class of this name.
-fn path_units(alloc: Global, name: &Name) -> Result<Vec<u16>, AllocError>
-    ensures { IfOk result (λ units. units.items ≡ spec.path_of name.now) }
-{
-    let mut units = Vec::new(alloc);
-    units.extend_from_slice(name.as_units())?;
-    units.extend_from_slice(&PATH_END)?;
-    Ok(units)
-}
-
-/// Whether a class comes before another by its path.
-fn comes_before(alloc: Global, class: &ClassDef, other: &ClassDef) -> Result<bool, AllocError>
-    ensures { IfOk result (λ before. before ≡ spec.comes_before class.now other.now) }
-{
-    let path = path_units(alloc, &class.name)?;
-    let other_path = path_units(alloc, &other.name)?;
-    Ok(path.as_slice().cmp(other_path.as_slice()).is_lt())
-}
-
 /// The place of a class among classes in the order of their paths.
 fn place_of(alloc: Global, class: &ClassDef, classes: &[ClassDef]) -> Result<usize, AllocError>
+    requires plain { spec.IsPlain class.now.name }
+    requires others_plain { All (λ other. spec.IsPlain other.name) classes.now }
     ensures within { IfOk result (λ at. at ≤ length classes.now) }
     ensures there { IfOk result (λ at. insert classes.now at class.now ≡ spec.insert_class class.now classes.now) }
 {

@@ -5,18 +5,21 @@ use Rattle.outside_io.specs.Files.{Files, Stay}
 use Rattle.class_model.specs.declared.class.ClassDef.{ClassDef}
 use Rattle.run_state.specs.declared.config.Config.{Config}
 use Rattle.set_loader.specs.declared.file.File.{File}
-use Rattle.set_loader.specs.Loads.{LoadsSource, RefusedAt}
+use Rattle.set_loader.specs.declared.stop.LoadStop.{LoadStop}
+use Rattle.set_loader.specs.Loads.{LoadsSource, IsDue}
+use Rattle.set_loader.specs.Loads as loading
 use Rattle.source_sink.specs.Reads.{Reads}
 use Rattle.instrument_set.specs.WrittenPaths.{written_paths}
 use Rattle.instrument_set.specs.Mirrors.{IsInstrumented}
 use Rattle.command_parts.specs.Folders.{ClassFiles, IsEmpty, ReadsBytes, ReadsClassFiles, RefusesClassFiles, RefusesFull, RefusesRead}
+use Rattle.command_parts.specs.LoadLines.{load_line}
 use Rattle.command_parts.specs.Writing.{placed}
 use Rattle.command_parts.specs.Writing as writing
 use Rattle.command_parts.specs.declared.stop.Stop.{Stop}
-use Rattle.command_parts.specs.declared.stop.Stop.TheVariants.{Usage, ListFault, ReadFault, WriteFault, TooManyFiles, FileTooLong, NotBuilt, ConfigNotBuilt, NoFile, NotEmpty, Memory}
+use Rattle.command_parts.specs.declared.stop.Stop.TheVariants.{Usage, ListFault, ReadFault, WriteFault, TooManyFiles, FileTooLong, NotLoaded, ConfigNotBuilt, NoFile, NotEmpty, Memory}
 use Rattle.phosphor_top.specs.Commands.{Command}
 use Rattle.phosphor_top.specs.Endings.{Ends, IfTold, IsPrepared}
-use Rattle.phosphor_top.specs.Verdict.{Configures, LoadsFrom, Refuses, RefusesBytes, RefusesConfig, RefusesFiles, RefusesLoad, TellsFile}
+use Rattle.phosphor_top.specs.Verdict.{Configures, LoadsFrom, Refuses, RefusesBytes, RefusesConfig, RefusesFiles, RefusesLoad, TellsLoad}
 use Rattle.phosphor_top.proofs.FoundFiles.{found}
 
 -- what is said of files that are told now was said of them before
@@ -25,13 +28,8 @@ told_before None n P stay h = tt
 told_before (Some m) None P stay h = absurd stay
 told_before (Some m) (Some n) P stay h = subst P stay h
 
-get_at : (list : List File) (i : ℕ) (file : File) → i < length list → file ≡ get_or list i file → slice_get list i ≡ Some file
-get_at [] i file within is = absurd (omega (arith, within))
-get_at (f ∷ list) zero file within is = ap Some (sym is)
-get_at (f ∷ list) (suc i) file within is = get_at list i file (omega (arith, within)) is
-
-pub tells_file : (list : List File) (number : ℕ) (file : File) (path : List ℕ) → RefusedAt list number → number < length list → file ≡ get_or list number file → path ≡ file.path → TellsFile list path
-tells_file list number file path refused within is named = record { number = number; refused = refused; file = file; is_file = get_at list number file within is; named = named }
+pub tells_load : (list : List File) (stop : LoadStop) (line : List ℕ) → IsDue stop → loading.Refuses list stop → line ≡ load_line list stop → TellsLoad list line
+tells_load list stop line due refused is = record { stop = stop; due = due; refused = refused; line_is = is }
 
 pub read_refused : (told : Option Files) (dir : List ℕ) (stop : Stop) → IfSome told (λ files. RefusesClassFiles files dir stop) → IfSome told (λ files. RefusesLoad files dir stop)
 read_refused None dir stop h = tt
@@ -41,7 +39,7 @@ read_refused (Some files) dir (ReadFault at) h = h
 read_refused (Some files) dir (WriteFault at) h = h
 read_refused (Some files) dir (TooManyFiles at) h = h
 read_refused (Some files) dir (FileTooLong at) h = h
-read_refused (Some files) dir (NotBuilt at) h = absurd h
+read_refused (Some files) dir (NotLoaded at) h = absurd h
 read_refused (Some files) dir ConfigNotBuilt h = h
 read_refused (Some files) dir (NoFile at) h = h
 read_refused (Some files) dir (NotEmpty at) h = h
@@ -54,7 +52,7 @@ files_refused files dir list (ReadFault at) read h = absurd h
 files_refused files dir list (WriteFault at) read h = absurd h
 files_refused files dir list (TooManyFiles at) read h = absurd h
 files_refused files dir list (FileTooLong at) read h = absurd h
-files_refused files dir list (NotBuilt at) read h = record { list = list; read = read; tells = h }
+files_refused files dir list (NotLoaded at) read h = record { list = list; read = read; tells = h }
 files_refused files dir list ConfigNotBuilt read h = absurd h
 files_refused files dir list (NoFile at) read h = absurd h
 files_refused files dir list (NotEmpty at) read h = absurd h
@@ -74,7 +72,7 @@ lists_refused (Some files) path (ReadFault at) h = h
 lists_refused (Some files) path (WriteFault at) h = h
 lists_refused (Some files) path (TooManyFiles at) h = h
 lists_refused (Some files) path (FileTooLong at) h = h
-lists_refused (Some files) path (NotBuilt at) h = h
+lists_refused (Some files) path (NotLoaded at) h = h
 lists_refused (Some files) path ConfigNotBuilt h = absurd h
 lists_refused (Some files) path (NoFile at) h = h
 lists_refused (Some files) path (NotEmpty at) h = h
@@ -87,7 +85,7 @@ bytes_refused files path bytes (ReadFault at) read h = absurd h
 bytes_refused files path bytes (WriteFault at) read h = absurd h
 bytes_refused files path bytes (TooManyFiles at) read h = absurd h
 bytes_refused files path bytes (FileTooLong at) read h = absurd h
-bytes_refused files path bytes (NotBuilt at) read h = absurd h
+bytes_refused files path bytes (NotLoaded at) read h = absurd h
 bytes_refused files path bytes ConfigNotBuilt read h = record { bytes = bytes; read = read; other = h }
 bytes_refused files path bytes (NoFile at) read h = absurd h
 bytes_refused files path bytes (NotEmpty at) read h = absurd h
@@ -131,7 +129,7 @@ refused_end command files new (ReadFault at) same h = (same, h)
 refused_end command files new (WriteFault at) same h = elim h [ inl a ↦ absurd a | inr b ↦ elim b [ inl c ↦ absurd c.2 | inr d ↦ absurd d.4 ] ]
 refused_end command files new (TooManyFiles at) same h = (same, h)
 refused_end command files new (FileTooLong at) same h = (same, h)
-refused_end command files new (NotBuilt at) same h = (same, h)
+refused_end command files new (NotLoaded at) same h = (same, h)
 refused_end command files new ConfigNotBuilt same h = (same, h)
 refused_end command files new (NoFile at) same h = (same, h)
 refused_end command files new (NotEmpty at) same h = (same, h)
@@ -163,7 +161,7 @@ write_ends command old new whole (Err (WriteFault at)) ready wrote = record {
 }
 write_ends command old new whole (Err (TooManyFiles at)) ready wrote = absurd wrote
 write_ends command old new whole (Err (FileTooLong at)) ready wrote = absurd wrote
-write_ends command old new whole (Err (NotBuilt at)) ready wrote = absurd wrote
+write_ends command old new whole (Err (NotLoaded at)) ready wrote = absurd wrote
 write_ends command old new whole (Err ConfigNotBuilt) ready wrote = absurd wrote
 write_ends command old new whole (Err (NoFile at)) ready wrote = absurd wrote
 write_ends command old new whole (Err (NotEmpty at)) ready wrote = absurd wrote

@@ -6,19 +6,20 @@ use Rattle.class_model.specs.declared.class.ClassDef.{ClassDef}
 use Rattle.run_state.specs.declared.config.Config.{Config}
 use Rattle.set_loader.specs.declared.file.File.{File}
 use Rattle.set_loader.specs.Loads.{LoadsSource}
+use Rattle.set_loader.proofs.Loading.{loads_or_refused, one_refusal}
 use Rattle.source_sink.specs.Reads.{Reads}
 use Rattle.command_parts.specs.Folders.{IsEmpty, RefusesFull}
+use Rattle.command_parts.specs.LoadLines.{load_line}
 use Rattle.command_parts.specs.declared.stop.Stop.{Stop}
-use Rattle.command_parts.specs.declared.stop.Stop.TheVariants.{Usage, ListFault, ReadFault, WriteFault, TooManyFiles, FileTooLong, NotBuilt, ConfigNotBuilt, NoFile, NotEmpty, Memory}
+use Rattle.command_parts.specs.declared.stop.Stop.TheVariants.{Usage, ListFault, ReadFault, WriteFault, TooManyFiles, FileTooLong, NotLoaded, ConfigNotBuilt, NoFile, NotEmpty, Memory}
 use Rattle.phosphor_top.specs.Commands.{Command}
-use Rattle.phosphor_top.specs.Verdict.{LoadsFrom, TellsFile, IsNotBuilt, RefusesLoad, Configures, RefusesConfig, Refuses, Passes, IsVerdict}
+use Rattle.phosphor_top.specs.Verdict.{LoadsFrom, TellsLoad, IsNotLoaded, RefusesLoad, Configures, RefusesConfig, Refuses, Passes, IsVerdict}
 use Rattle.phosphor_top.proofs.FolderOnce.{one_list, few_or_many, read_or_long, one_long, empty_or_full, one_bytes, there_or_absent, long_or_short, long_or_absent}
-use Rattle.phosphor_top.proofs.LoadOnce.{loads_or_refused, refused_once}
 
-loads_or_told : (files : Files) (dir path : List ℕ) (set : List ClassDef) → LoadsFrom files dir set → IsNotBuilt files dir path → ⊥
-loads_or_told files dir path set loads told =
+loads_or_told : (files : Files) (dir line : List ℕ) (set : List ClassDef) → LoadsFrom files dir set → IsNotLoaded files dir line → ⊥
+loads_or_told files dir line set loads told =
     let same : loads.list ≡ told.list = one_list files dir loads.list told.list loads.read told.read in
-    loads_or_refused told.list set told.tells.number (subst (λ (fs : List File). LoadsSource fs set) same loads.loads) told.tells.refused
+    loads_or_refused told.list set told.tells.stop (subst (λ (fs : List File). LoadsSource fs set) same loads.loads) told.tells.due told.tells.refused
 
 -- a folder loads, or it does not
 load_or_not : (files : Files) (dir : List ℕ) (set : List ClassDef) (stop : Stop) → IsVerdict stop → LoadsFrom files dir set → RefusesLoad files dir stop → ⊥
@@ -28,35 +29,33 @@ load_or_not files dir set (ReadFault at) is loads refuses = is
 load_or_not files dir set (WriteFault at) is loads refuses = is
 load_or_not files dir set (TooManyFiles at) is loads refuses = few_or_many files dir loads.read.paths loads.read.few refuses.1
 load_or_not files dir set (FileTooLong at) is loads refuses = read_or_long files dir at loads.list loads.read refuses
-load_or_not files dir set (NotBuilt at) is loads refuses = loads_or_told files dir at set loads refuses
+load_or_not files dir set (NotLoaded at) is loads refuses = loads_or_told files dir at set loads refuses
 load_or_not files dir set ConfigNotBuilt is loads refuses = refuses
 load_or_not files dir set (NoFile at) is loads refuses = refuses
 load_or_not files dir set (NotEmpty at) is loads refuses = refuses
 load_or_not files dir set Memory is loads refuses = is
 
-one_told : (list : List File) (p q : List ℕ) → TellsFile list p → TellsFile list q → p ≡ q
+one_told : (list : List File) (p q : List ℕ) → TellsLoad list p → TellsLoad list q → p ≡ q
 one_told list p q a b =
-    let number : a.number ≡ b.number = refused_once list a.number b.number a.refused b.refused in
-    let file : ◌≡◌ {A = Option File} (Some a.file) (Some b.file) = sym a.is_file ∙ ap (slice_get list) number ∙ b.is_file in
-    let paths : a.file.path ≡ b.file.path = cc in
-    a.named ∙ paths ∙ sym b.named
+    let stop : a.stop ≡ b.stop = one_refusal list a.stop b.stop a.due b.due a.refused b.refused in
+    a.line_is ∙ ap (load_line list) stop ∙ sym b.line_is
 
-one_not_built : (files : Files) (dir p q : List ℕ) → IsNotBuilt files dir p → IsNotBuilt files dir q → p ≡ q
-one_not_built files dir p q a b =
+one_line : (files : Files) (dir p q : List ℕ) → IsNotLoaded files dir p → IsNotLoaded files dir q → p ≡ q
+one_line files dir p q a b =
     let same : a.list ≡ b.list = one_list files dir a.list b.list a.read b.read in
-    one_told b.list p q (subst (λ (fs : List File). TellsFile fs p) same a.tells) b.tells
+    one_told b.list p q (subst (λ (fs : List File). TellsLoad fs p) same a.tells) b.tells
 
 -- a folder that does not load has one refusal: from each stop that is a verdict, its kind first
 load_once : (files : Files) (dir : List ℕ) (stop other : Stop) → IsVerdict stop → IsVerdict other → RefusesLoad files dir stop → RefusesLoad files dir other → stop ≡ other
 load_once files dir (TooManyFiles a) (TooManyFiles b) is also x y = ap TooManyFiles (x.0 ∙ sym y.0)
 load_once files dir (TooManyFiles a) (FileTooLong b) is also x y = absurd (few_or_many files dir y.paths y.few x.1)
-load_once files dir (TooManyFiles a) (NotBuilt b) is also x y = absurd (few_or_many files dir y.read.paths y.read.few x.1)
+load_once files dir (TooManyFiles a) (NotLoaded b) is also x y = absurd (few_or_many files dir y.read.paths y.read.few x.1)
 load_once files dir (FileTooLong a) (TooManyFiles b) is also x y = absurd (few_or_many files dir x.paths x.few y.1)
 load_once files dir (FileTooLong a) (FileTooLong b) is also x y = ap FileTooLong (one_long files dir a b x y)
-load_once files dir (FileTooLong a) (NotBuilt b) is also x y = absurd (read_or_long files dir a y.list y.read x)
-load_once files dir (NotBuilt a) (TooManyFiles b) is also x y = absurd (few_or_many files dir x.read.paths x.read.few y.1)
-load_once files dir (NotBuilt a) (FileTooLong b) is also x y = absurd (read_or_long files dir b x.list x.read y)
-load_once files dir (NotBuilt a) (NotBuilt b) is also x y = ap NotBuilt (one_not_built files dir a b x y)
+load_once files dir (FileTooLong a) (NotLoaded b) is also x y = absurd (read_or_long files dir a y.list y.read x)
+load_once files dir (NotLoaded a) (TooManyFiles b) is also x y = absurd (few_or_many files dir x.read.paths x.read.few y.1)
+load_once files dir (NotLoaded a) (FileTooLong b) is also x y = absurd (read_or_long files dir b x.list x.read y)
+load_once files dir (NotLoaded a) (NotLoaded b) is also x y = ap NotLoaded (one_line files dir a b x y)
 load_once files dir Usage other is also x y = absurd is
 load_once files dir (ListFault a) other is also x y = absurd is
 load_once files dir (ReadFault a) other is also x y = absurd is
@@ -77,14 +76,14 @@ load_once files dir (FileTooLong a) ConfigNotBuilt is also x y = absurd y
 load_once files dir (FileTooLong a) (NoFile b) is also x y = absurd y
 load_once files dir (FileTooLong a) (NotEmpty b) is also x y = absurd y
 load_once files dir (FileTooLong a) Memory is also x y = absurd also
-load_once files dir (NotBuilt a) Usage is also x y = absurd also
-load_once files dir (NotBuilt a) (ListFault b) is also x y = absurd also
-load_once files dir (NotBuilt a) (ReadFault b) is also x y = absurd also
-load_once files dir (NotBuilt a) (WriteFault b) is also x y = absurd also
-load_once files dir (NotBuilt a) ConfigNotBuilt is also x y = absurd y
-load_once files dir (NotBuilt a) (NoFile b) is also x y = absurd y
-load_once files dir (NotBuilt a) (NotEmpty b) is also x y = absurd y
-load_once files dir (NotBuilt a) Memory is also x y = absurd also
+load_once files dir (NotLoaded a) Usage is also x y = absurd also
+load_once files dir (NotLoaded a) (ListFault b) is also x y = absurd also
+load_once files dir (NotLoaded a) (ReadFault b) is also x y = absurd also
+load_once files dir (NotLoaded a) (WriteFault b) is also x y = absurd also
+load_once files dir (NotLoaded a) ConfigNotBuilt is also x y = absurd y
+load_once files dir (NotLoaded a) (NoFile b) is also x y = absurd y
+load_once files dir (NotLoaded a) (NotEmpty b) is also x y = absurd y
+load_once files dir (NotLoaded a) Memory is also x y = absurd also
 load_once files dir ConfigNotBuilt other is also x y = absurd x
 load_once files dir (NoFile a) other is also x y = absurd x
 load_once files dir (NotEmpty a) other is also x y = absurd x
@@ -98,7 +97,7 @@ config_or_not files path config (ReadFault at) is configures refuses = is
 config_or_not files path config (WriteFault at) is configures refuses = is
 config_or_not files path config (TooManyFiles at) is configures refuses = refuses
 config_or_not files path config (FileTooLong at) is configures refuses = long_or_short files path configures.bytes configures.read.1 configures.read.0 refuses.1
-config_or_not files path config (NotBuilt at) is configures refuses = refuses
+config_or_not files path config (NotLoaded at) is configures refuses = refuses
 config_or_not files path config ConfigNotBuilt is configures refuses = refuses.other config (subst (λ (bytes : List ℕ). Reads bytes config) (one_bytes files path configures.bytes refuses.bytes configures.read refuses.read) configures.lists)
 config_or_not files path config (NoFile at) is configures refuses = there_or_absent files path configures.bytes configures.read refuses.1
 config_or_not files path config (NotEmpty at) is configures refuses = refuses
@@ -117,19 +116,19 @@ config_once files path (FileTooLong a) (ReadFault b) is also x y = absurd also
 config_once files path (FileTooLong a) (WriteFault b) is also x y = absurd also
 config_once files path (FileTooLong a) (TooManyFiles b) is also x y = absurd y
 config_once files path (FileTooLong a) (FileTooLong b) is also x y = ap FileTooLong (x.0 ∙ sym y.0)
-config_once files path (FileTooLong a) (NotBuilt b) is also x y = absurd y
+config_once files path (FileTooLong a) (NotLoaded b) is also x y = absurd y
 config_once files path (FileTooLong a) ConfigNotBuilt is also x y = absurd (long_or_short files path y.bytes y.read.1 y.read.0 x.1)
 config_once files path (FileTooLong a) (NoFile b) is also x y = absurd (long_or_absent files path x.1 y.1)
 config_once files path (FileTooLong a) (NotEmpty b) is also x y = absurd y
 config_once files path (FileTooLong a) Memory is also x y = absurd also
-config_once files path (NotBuilt a) other is also x y = absurd x
+config_once files path (NotLoaded a) other is also x y = absurd x
 config_once files path ConfigNotBuilt Usage is also x y = absurd also
 config_once files path ConfigNotBuilt (ListFault b) is also x y = absurd also
 config_once files path ConfigNotBuilt (ReadFault b) is also x y = absurd also
 config_once files path ConfigNotBuilt (WriteFault b) is also x y = absurd also
 config_once files path ConfigNotBuilt (TooManyFiles b) is also x y = absurd y
 config_once files path ConfigNotBuilt (FileTooLong b) is also x y = absurd (long_or_short files path x.bytes x.read.1 x.read.0 y.1)
-config_once files path ConfigNotBuilt (NotBuilt b) is also x y = absurd y
+config_once files path ConfigNotBuilt (NotLoaded b) is also x y = absurd y
 config_once files path ConfigNotBuilt ConfigNotBuilt is also x y = refl
 config_once files path ConfigNotBuilt (NoFile b) is also x y = absurd (there_or_absent files path x.bytes x.read y.1)
 config_once files path ConfigNotBuilt (NotEmpty b) is also x y = absurd y
@@ -140,7 +139,7 @@ config_once files path (NoFile a) (ReadFault b) is also x y = absurd also
 config_once files path (NoFile a) (WriteFault b) is also x y = absurd also
 config_once files path (NoFile a) (TooManyFiles b) is also x y = absurd y
 config_once files path (NoFile a) (FileTooLong b) is also x y = absurd (long_or_absent files path y.1 x.1)
-config_once files path (NoFile a) (NotBuilt b) is also x y = absurd y
+config_once files path (NoFile a) (NotLoaded b) is also x y = absurd y
 config_once files path (NoFile a) ConfigNotBuilt is also x y = absurd (there_or_absent files path y.bytes y.read x.1)
 config_once files path (NoFile a) (NoFile b) is also x y = ap NoFile (x.0 ∙ sym y.0)
 config_once files path (NoFile a) (NotEmpty b) is also x y = absurd y
@@ -155,7 +154,7 @@ empty_or_not files dir (ReadFault at) is empty refuses = is
 empty_or_not files dir (WriteFault at) is empty refuses = is
 empty_or_not files dir (TooManyFiles at) is empty refuses = refuses
 empty_or_not files dir (FileTooLong at) is empty refuses = refuses
-empty_or_not files dir (NotBuilt at) is empty refuses = refuses
+empty_or_not files dir (NotLoaded at) is empty refuses = refuses
 empty_or_not files dir ConfigNotBuilt is empty refuses = refuses
 empty_or_not files dir (NoFile at) is empty refuses = refuses
 empty_or_not files dir (NotEmpty at) is empty refuses = empty_or_full files dir empty refuses.1
@@ -168,7 +167,7 @@ full_once files dir (ReadFault a) other is also x y = absurd is
 full_once files dir (WriteFault a) other is also x y = absurd is
 full_once files dir (TooManyFiles a) other is also x y = absurd x
 full_once files dir (FileTooLong a) other is also x y = absurd x
-full_once files dir (NotBuilt a) other is also x y = absurd x
+full_once files dir (NotLoaded a) other is also x y = absurd x
 full_once files dir ConfigNotBuilt other is also x y = absurd x
 full_once files dir (NoFile a) other is also x y = absurd x
 full_once files dir (NotEmpty a) Usage is also x y = absurd also
@@ -177,7 +176,7 @@ full_once files dir (NotEmpty a) (ReadFault b) is also x y = absurd also
 full_once files dir (NotEmpty a) (WriteFault b) is also x y = absurd also
 full_once files dir (NotEmpty a) (TooManyFiles b) is also x y = absurd y
 full_once files dir (NotEmpty a) (FileTooLong b) is also x y = absurd y
-full_once files dir (NotEmpty a) (NotBuilt b) is also x y = absurd y
+full_once files dir (NotEmpty a) (NotLoaded b) is also x y = absurd y
 full_once files dir (NotEmpty a) ConfigNotBuilt is also x y = absurd y
 full_once files dir (NotEmpty a) (NoFile b) is also x y = absurd y
 full_once files dir (NotEmpty a) (NotEmpty b) is also x y = ap NotEmpty (x.0 ∙ sym y.0)

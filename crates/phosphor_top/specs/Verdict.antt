@@ -1,18 +1,21 @@
 -- The verdict on a command: the first of its parts that fails, with the stop that tells it, or the set and the lists.
 -- This project's own order: the class files of the folder that is read, how many files it holds and how long they are;
 -- their load; the lists, whether they are there, how long they are and what they say; the folder that is written.
-use Rattle.std.specs.Prelude.{◌≡◌, ℕ, List, ◌⊎◌, Some, None, slice_get, ⊤}
+use Rattle.std.specs.Prelude.{◌≡◌, ℕ, List, ◌⊎◌, None, ⊤}
 use Rattle.std.specs.FinMap.{get}
 use Rattle.outside_io.specs.Files.{Files}
 use Rattle.class_model.specs.declared.class.ClassDef.{ClassDef}
 use Rattle.run_state.specs.declared.config.Config.{Config}
 use Rattle.first_form.specs.declared.names.Names.TheVariants as names
 use Rattle.set_loader.specs.declared.file.File.{File}
-use Rattle.set_loader.specs.Loads.{Loads, RefusedAt}
+use Rattle.set_loader.specs.declared.stop.LoadStop.{LoadStop}
+use Rattle.set_loader.specs.Loads.{Loads, IsDue}
+use Rattle.set_loader.specs.Loads as loading
 use Rattle.source_sink.specs.Reads.{Reads}
 use Rattle.command_parts.specs.Folders.{HasMany, IsEmpty, IsLong, ReadsBytes, ReadsClassFiles, FirstLong, RefusesFull}
+use Rattle.command_parts.specs.LoadLines.{load_line}
 use Rattle.command_parts.specs.declared.stop.Stop.{Stop}
-use Rattle.command_parts.specs.declared.stop.Stop.TheVariants.{Usage, ListFault, ReadFault, WriteFault, TooManyFiles, FileTooLong, NotBuilt, ConfigNotBuilt, NoFile, NotEmpty, Memory}
+use Rattle.command_parts.specs.declared.stop.Stop.TheVariants.{Usage, ListFault, ReadFault, WriteFault, TooManyFiles, FileTooLong, NotLoaded, ConfigNotBuilt, NoFile, NotEmpty, Memory}
 use Rattle.phosphor_top.specs.Commands.{Command}
 
 -- the class files of a folder load as this set
@@ -21,31 +24,30 @@ pub record LoadsFrom (files : Files) (dir : List ℕ) (set : List ClassDef) : Ty
   pub read : ReadsClassFiles files dir list
   pub loads : Loads names.Source list set
 
--- of class files that do not load the one that is told has this path
-pub record TellsFile (list : List File) (path : List ℕ) : Type 0 where
-  pub number : ℕ
-  pub refused : RefusedAt list number
-  pub file : File
-  pub is_file : slice_get list number ≡ Some file
-  pub named : path ≡ file.path
+-- class files do not load, and the line tells why
+pub record TellsLoad (list : List File) (line : List ℕ) : Type 0 where
+  pub stop : LoadStop
+  pub due : IsDue stop
+  pub refused : loading.Refuses list stop
+  pub line_is : line ≡ load_line list stop
 
 -- files that were read do not load
 abbrev pub RefusesFiles : List File → Stop → Type 0
-RefusesFiles list (NotBuilt path) = TellsFile list path
+RefusesFiles list (NotLoaded line) = TellsLoad list line
 RefusesFiles list Memory = ⊤
 RefusesFiles list _ = ⊥
 
--- the class files of a folder do not load, and the one that is told has this path in it
-pub record IsNotBuilt (files : Files) (dir path : List ℕ) : Type 0 where
+-- the class files of a folder do not load, and the line tells why
+pub record IsNotLoaded (files : Files) (dir line : List ℕ) : Type 0 where
   pub list : List File
   pub read : ReadsClassFiles files dir list
-  pub tells : TellsFile list path
+  pub tells : TellsLoad list line
 
 -- a folder is not loaded
 abbrev pub RefusesLoad : Files → (dir : List ℕ) → Stop → Type 0
 RefusesLoad files dir (TooManyFiles at) = (at ≡ dir) × HasMany files dir
 RefusesLoad files dir (FileTooLong whole) = FirstLong files dir whole
-RefusesLoad files dir (NotBuilt path) = IsNotBuilt files dir path
+RefusesLoad files dir (NotLoaded line) = IsNotLoaded files dir line
 RefusesLoad files dir (ListFault at) = ⊤
 RefusesLoad files dir (ReadFault path) = ⊤
 RefusesLoad files dir Memory = ⊤
@@ -100,7 +102,7 @@ IsVerdict (ReadFault path) = ⊥
 IsVerdict (WriteFault path) = ⊥
 IsVerdict (TooManyFiles dir) = ⊤
 IsVerdict (FileTooLong path) = ⊤
-IsVerdict (NotBuilt path) = ⊤
+IsVerdict (NotLoaded line) = ⊤
 IsVerdict ConfigNotBuilt = ⊤
 IsVerdict (NoFile path) = ⊤
 IsVerdict (NotEmpty dir) = ⊤

@@ -9,7 +9,7 @@ ghost use Rattle.command_parts.specs.Looks.{Looked};
 ghost use Rattle.phosphor_top.specs.Verdict.{Configures, LoadsFrom, RefusesBytes, RefusesConfig, RefusesFiles, RefusesLoad};
 
 use class_model::ClassDef;
-use command_parts::{Stop, class_files, read_named};
+use command_parts::{Stop, class_files, load_line, read_named};
 use outside_io::Folder;
 use run_state::Config;
 use set_loader::{File, LoadStop, load_set};
@@ -24,10 +24,8 @@ fn load(alloc: Global, files: &[File]) -> Result<Vec<ClassDef>, Stop>
 {
     match load_set(alloc, files) {
         Ok(set) => Ok(set),
-        Err(LoadStop::NotBuilt { file }) => {
-            Err(Stop::NotBuilt(files[file as usize].path.clone()?))
-        }
         Err(LoadStop::Memory) => Err(Stop::Memory),
+        Err(stop) => Err(Stop::NotLoaded(load_line(alloc, &stop, files)?)),
     }
 }
 

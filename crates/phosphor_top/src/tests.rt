@@ -198,12 +198,46 @@ fn lists_that_are_not_built(rt: HostRuntime) -> Result<(), Fail> {
     Ok(())
 }
 
+/// The class file of the sum with this byte at a place; past its end, the byte stands behind it.
+fn sum_with(alloc: Global, at: usize, byte: u8) -> Result<Vec<u8>, Fail> {
+    let mut bytes = Vec::from_slice(alloc, sum())?;
+    match bytes.get_mut(at) {
+        Some(there) => *there = byte,
+        None => bytes.push(byte)?,
+    }
+    Ok(bytes)
+}
+
+fn refuses(rt: &impl Abort, alloc: Global, bytes: &[u8], line: &str) -> Result<(), Fail> {
+    let mut folder = sum_folder(alloc, None)?;
+    folder.write("in/A.class", bytes)?;
+    instrument(rt, alloc, &mut folder, 2, line)?;
+    assert_eq!(rt; folder.list(alloc, "out")?.len(), 0);
+    Ok(())
+}
+
 #[test]
 fn a_file_that_is_no_class(rt: HostRuntime) -> Result<(), Fail> {
     let alloc = rt.alloc();
-    let mut folder = sum_folder(alloc, None)?;
-    folder.write("in/A.class", b"no class".as_slice())?;
-    instrument(&rt, alloc, &mut folder, 2, "refused: A.class: not built\n")
+    refuses(&rt, alloc, b"", "refused: A.class: byte 0: short\n")?;
+    let head = [0xCA, 0xFE, 0xBA, 0xBE, 0, 0, 0, 52, 0];
+    refuses(&rt, alloc, &head, "refused: A.class: byte 8: short\n")?;
+    let longer = sum_with(alloc, 193, 0)?;
+    refuses(
+        &rt,
+        alloc,
+        &longer,
+        "refused: A.class: byte 193: trailing\n",
+    )?;
+    let tag = sum_with(alloc, 10, 2)?;
+    refuses(&rt, alloc, &tag, "refused: A.class: byte 10: pool tag 2\n")
+}
+
+#[test]
+fn a_class_of_another_form(rt: HostRuntime) -> Result<(), Fail> {
+    let alloc = rt.alloc();
+    let major = sum_with(alloc, 7, 53)?;
+    refuses(&rt, alloc, &major, "refused: A.class: not built\n")
 }
 
 #[test]

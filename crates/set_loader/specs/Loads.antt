@@ -1,19 +1,26 @@
 -- The set of classes that files are (this project's own), for the classes that are built so far.
-use Rattle.std.specs.Prelude.{◌≡◌, ◌≢◌, ℕ, ◌<◌, ◌≤◌, List, [], ◌∷◌, ◌++◌, length, slice_get, take, All, Some, ◌⊎◌}
+use Rattle.std.specs.Prelude.{◌≡◌, ◌≢◌, ℕ, ◌<◌, ◌≤◌, List, [], ◌∷◌, ◌++◌, length, slice_get, take, All, Some, ◌⊎◌, Err}
 use Rattle.std.specs.List.{AllZip, Contains}
+use Rattle.class_input.specs.declared.bad_class.BadKind.{BadKind}
 use Rattle.class_model.specs.declared.class.ClassDef.{ClassDef}
-use Rattle.class_grammar.specs.ClassBytes.{ClassBytes}
+use Rattle.class_file.specs.ClassReading.{file}
+use Rattle.code_attribute.specs.CodeContentReading.{code_content}
+use Rattle.code_attribute.specs.WholeClass.{IsClassFile}
 use Rattle.first_form.specs.declared.names.Names.{Names}
 use Rattle.first_form.specs.declared.names.Names.TheVariants.{Source, Written}
 use Rattle.first_form.specs.FormOne.{FormOne}
 use Rattle.first_form.specs.Base.{small_base, report_class}
 use Rattle.set_loader.specs.declared.file.File.{File}
-use Rattle.set_loader.specs.declared.load.LoadStop.{LoadStop}
-use Rattle.set_loader.specs.declared.load.LoadStop.TheVariants.{NotBuilt, Memory}
+use Rattle.set_loader.specs.declared.stop.LoadStop.{LoadStop}
+use Rattle.set_loader.specs.declared.stop.LoadStop.TheVariants.{Bad, NotBuilt, Memory}
+
+-- bytes are no class file, with the first bad place and its kind
+abbrev pub IsBad : List ℕ → ℕ → BadKind → Type 0
+IsBad bytes place kind = file code_content bytes ≡ Err (record { place = place; kind = kind })
 
 -- a file is a class file of this class
 abbrev pub IsFileOf : File → ClassDef → Type 0
-IsFileOf file class = ClassBytes file.bytes class
+IsFileOf file class = IsClassFile file.bytes class
 
 -- files of a user: at most one, with a class of the first form; the small base is added
 pub record LoadsSource (files : List File) (set : List ClassDef) : Type 0 where
@@ -42,28 +49,64 @@ abbrev pub Loads : Names → List File → List ClassDef → Type 0
 Loads Source files set = LoadsSource files set
 Loads Written files set = LoadsWritten files set
 
--- a file of a user that is built: it has a class of the first form
-abbrev pub IsBuiltFile : File → Type 0
-IsBuiltFile file = (class : ClassDef) × IsFileOf file class × FormOne Source class
+-- ---- refusals of a user's files
 
--- the first file that is not built, by its number
-pub record IsFirstNotBuilt (files : List File) (number : ℕ) : Type 0 where
+-- a file is a class file
+abbrev pub Decodes : File → Type 0
+Decodes file = (class : ClassDef) × IsFileOf file class
+
+-- the first file that is no class file, by its number, with its first bad place
+pub record IsFirstBad (files : List File) (number place : ℕ) (kind : BadKind) : Type 0 where
   pub file : File
   pub stands : slice_get files number ≡ Some file
-  pub earlier : All IsBuiltFile (take number files)
-  pub not_built : IsBuiltFile file → ⊥
+  pub earlier : All Decodes (take number files)
+  pub bad : IsBad file.bytes place kind
 
--- each file is built, but there are two or more: the second is told
-pub record AreTooMany (files : List File) (number : ℕ) : Type 0 where
-  pub all_built : All IsBuiltFile files
+-- the first class that is not of the first form, by its number
+pub record IsFirstOther (classes : List ClassDef) (number : ℕ) : Type 0 where
+  pub class : ClassDef
+  pub stands : slice_get classes number ≡ Some class
+  pub earlier : All (FormOne Source) (take number classes)
+  pub not_formed : FormOne Source class → ⊥
+
+-- each class is of the form, but there are two or more: the second is told
+pub record AreTooMany (classes : List ClassDef) (number : ℕ) : Type 0 where
+  pub formed : All (FormOne Source) classes
   pub second : number ≡ 1
-  pub there : 1 < length files
+  pub there : 1 < length classes
 
--- the file of a user's that a refusal tells
-abbrev pub RefusedAt : List File → ℕ → Type 0
-RefusedAt files number = IsFirstNotBuilt files number ⊎ AreTooMany files number
+-- all files are class files, but one is not built
+pub record IsNotBuilt (files : List File) (number : ℕ) : Type 0 where
+  pub classes : List ClassDef
+  pub read : AllZip IsFileOf files classes
+  pub not_built : IsFirstOther classes number ⊎ AreTooMany classes number
 
--- what a refused load tells; want of memory tells nothing
-abbrev pub Tells : LoadStop → List File → Type 0
-Tells (NotBuilt number) files = RefusedAt files number
-Tells Memory files = Unit {0}
+-- the refusal of files that do not load; want of memory may come with any
+abbrev pub Refuses : List File → LoadStop → Type 0
+Refuses files (Bad number place kind) = IsFirstBad files number place kind
+Refuses files (NotBuilt number) = IsNotBuilt files number
+Refuses files Memory = Unit {0}
+
+-- a refusal that depends on the files alone
+abbrev pub IsDue : LoadStop → Type 0
+IsDue (Bad number place kind) = Unit {0}
+IsDue (NotBuilt number) = Unit {0}
+IsDue Memory = ⊥
+
+-- the file that a refusal tells is one of so many
+abbrev pub IsWithin : LoadStop → ℕ → Type 0
+IsWithin (Bad number place kind) count = number < count
+IsWithin (NotBuilt number) count = number < count
+IsWithin Memory count = Unit {0}
+
+-- a file of this number is no class file; want of memory may come with any
+abbrev pub RefusesFile : ℕ → File → LoadStop → Type 0
+RefusesFile number file (Bad told place kind) = (told ≡ number) × IsBad file.bytes place kind
+RefusesFile number file (NotBuilt told) = ⊥
+RefusesFile number file Memory = Unit {0}
+
+-- one of the files is no class file
+abbrev pub RefusesDecoding : List File → LoadStop → Type 0
+RefusesDecoding files (Bad number place kind) = IsFirstBad files number place kind
+RefusesDecoding files (NotBuilt number) = ⊥
+RefusesDecoding files Memory = Unit {0}

@@ -3,9 +3,11 @@
 
 mod file;
 mod load;
+mod stop;
 
 pub use file::File;
-pub use load::{LoadStop, load_set};
+pub use load::load_set;
+pub use stop::LoadStop;
 
 #[cfg(test)]
 mod tests;

@@ -1,6 +1,7 @@
 //! Loading the class file of a small program.
 
 use super::*;
+use class_codec::BadKind;
 use lists::{Path, Seq};
 use std::alloc::Global;
 use std::test::Fail;
@@ -56,12 +57,16 @@ fn the_file_that_is_told(rt: HostRuntime) -> Result<(), Fail> {
     );
     let cut = [
         file(rt.alloc(), "A.class", &SUM)?,
-        file(rt.alloc(), "B.class", &SUM)?,
+        file(rt.alloc(), "B.class", &SUM[..7])?,
         file(rt.alloc(), "C.class", &SUM[..192])?,
     ];
     assert_eq!(rt;
         load_set(rt.alloc(), &cut).err(),
-        Some(LoadStop::NotBuilt { file: 2 })
+        Some(LoadStop::Bad {
+            file: 1,
+            place: 6,
+            kind: BadKind::Short
+        })
     );
     Ok(())
 }

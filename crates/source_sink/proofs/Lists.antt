@@ -1,7 +1,7 @@
 -- Lists of more than one entry are not built, and bytes have one value at most.
 use Rattle.std.proofs.Common.{◌≡◌, ℕ, ℤ, ◌≤◌, List, [], ◌∷◌, length, Option, Some, arith, inl, inr}
 use Rattle.std.specs.Prelude.{◌⊎◌, Result, Ok, Err, IfOk}
-use Rattle.class_grammar.specs.Built.{IsShort}
+use Rattle.first_form.specs.FirstSet.{IsShort}
 use Rattle.first_form.specs.FirstSet.{read_source, write_sink, IsFirstConfig}
 use Rattle.serde_json.specs.Data.{Data, Items, no_items, item}
 use Rattle.serde_json.specs.Read.{read}

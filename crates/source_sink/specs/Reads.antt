@@ -8,7 +8,7 @@ use Rattle.serde_json.specs.Events.{members_len}
 use Rattle.run_state.specs.declared.config.Source.{Source}
 use Rattle.run_state.specs.declared.config.Sink.{Sink}
 use Rattle.run_state.specs.declared.config.Config.{Config}
-use Rattle.class_grammar.specs.Built.{IsShort}
+use Rattle.first_form.specs.FirstSet.{IsShort}
 use Rattle.first_form.specs.FirstSet.{read_source, write_sink}
 
 -- the bytes are the JSON text of this value, in which of members of one name in one object the last alone counts

@@ -3,27 +3,33 @@ use Rattle.std.specs.Prelude.{map}
 use Rattle.std.specs.List.{AllZip}
 use Rattle.std.proofs.lemmas.List.Elements.{All-same}
 use Rattle.class_model.specs.declared.class.ClassDef.{ClassDef}
-use Rattle.class_grammar.specs.Built.{IsBuilt}
-use Rattle.class_grammar.specs.Sizes.{FitsSizes}
+use Rattle.class_shape.specs.Shaped.{Shaped}
 use Rattle.instrument_set.specs.ClassFile.{IsClassFile}
 use Rattle.instrument_set.specs.Marking.{marks_of}
 use Rattle.instrument_set.specs.WrittenSet as spec
-use Rattle.instrument_set.proofs.WrittenBuilt.{written_built}
-use Rattle.instrument_set.proofs.Sizes.{written_fits}
+use Rattle.instrument_set.proofs.PathText.{HasPlainName, written_plain}
+use Rattle.instrument_set.proofs.Shape.{written_shaped}
+use Rattle.instrument_set.proofs.Limits.{IsUnlimited, written_unlimited}
 use Rattle.instrument_set.proofs.Filed.{paths_are, files_are}
 use Rattle.instrument_set.proofs.files.instrument.Goals as goal
 
-pub class_files-requires-clause-built : goal.class_files-requires-clause-built
-class_files-requires-clause-built c =
+pub class_files-requires-clause-plain : goal.class_files-requires-clause-plain
+class_files-requires-clause-plain c =
     let set = c.args.set.now in
     let config = c.args.config.now in
-    All-same IsBuilt c.deref.result.now (spec.written_set (marks_of config) set) (c.deref.ensures.value ∙ c.in_ok-written.ensures.exact) (written_built set config c.requires.set c.requires.config)
+    All-same HasPlainName c.deref.result.now (spec.written_set (marks_of config) set) (c.deref.ensures.value ∙ c.in_ok-written.ensures.exact) (written_plain set config c.requires.set)
+
+pub class_files-requires-clause-shaped : goal.class_files-requires-clause-shaped
+class_files-requires-clause-shaped c =
+    let set = c.args.set.now in
+    let config = c.args.config.now in
+    All-same Shaped c.deref.result.now (spec.written_set (marks_of config) set) (c.deref.ensures.value ∙ c.in_ok-written.ensures.exact) (written_shaped set config c.requires.set)
 
 pub class_files-requires-clause-fit : goal.class_files-requires-clause-fit
 class_files-requires-clause-fit c =
     let set = c.args.set.now in
     let config = c.args.config.now in
-    All-same FitsSizes c.deref.result.now (spec.written_set (marks_of config) set) (c.deref.ensures.value ∙ c.in_ok-written.ensures.exact) (written_fits set config c.requires.set)
+    All-same IsUnlimited c.deref.result.now (spec.written_set (marks_of config) set) (c.deref.ensures.value ∙ c.in_ok-written.ensures.exact) (written_unlimited set config c.requires.set)
 
 pub returns-clause-paths : goal.returns-clause-paths
 returns-clause-paths c =
