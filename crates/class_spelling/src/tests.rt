@@ -1,5 +1,6 @@
-ghost use Rattle.std.specs.Prelude.{IfOk, IfSome};
-ghost use Rattle.pool_names.specs.Adding.{unspelled};
+ghost use Rattle.std.specs.Prelude.{◌≡◌, [], IfOk, IfSome};
+ghost use Rattle.pool_names.specs.Adding.{done};
+ghost use Rattle.pool_names.proofs.Claiming.{done_claims};
 ghost use Rattle.pool_names.specs.Fits.{FitsText};
 ghost use Rattle.class_spelling.specs.Writable.{Writable, WritableField};
 
@@ -11,25 +12,25 @@ use pool_names::PoolWriter;
 use std::alloc::{AllocError, Global};
 use std::test::Fail;
 
-/// Takes no code.
+/// Writes no byte of any code.
 struct NoCode;
 
 impl CodeWriter for NoCode {
-    ghost is_code = { λ p class head text code. ⊥ };
+    ghost is_code = { λ p class head text code. [] ≡ text };
 
-    ghost spelled = { λ code. unspelled };
+    ghost spelled = { λ code. done [] };
 
-    ghost writable = { λ code. ⊥ };
+    ghost writable = { λ code. Unit {0} };
 
-    ghost claims = { λ class head code h. absurd h };
+    ghost claims = { λ class head code any. done_claims [] };
 
     fn write_code(
         &self,
-        _alloc: Global,
+        alloc: Global,
         _pool: &mut PoolWriter,
         _code: &CodeDef,
     ) -> Result<Vec<u8>, PoolStop> {
-        Err(PoolStop::Memory)
+        Ok(Vec::new(alloc))
     }
 }
 
@@ -61,7 +62,7 @@ fn field(alloc: Global) -> Result<FieldDef, AllocError>
 /// The class `A` with that field.
 #[tactic(auto, unfolding(crate::specs::Writable::EachFits))]
 fn class(alloc: Global) -> Result<ClassDef, AllocError>
-    ensures { IfOk result (λ class. Writable (λ code. ⊥) class) }
+    ensures { IfOk result (λ class. Writable (λ code. Unit {0}) class) }
 {
     let name = name(alloc, &[65])?;
     let mut fields = Seq::new(alloc);
