@@ -9,15 +9,19 @@ ghost use Rattle.class_attributes.specs.AttributeReading as reading;
 use class_input::{BadClass, Input};
 use class_model::{Constant, InnerRow};
 use class_names::{
-    next_bytes, next_class_name, next_constant, next_optional_class_name, next_optional_name,
+    NamedPool, next_bytes, next_class_name, next_constant, next_optional_class_name,
+    next_optional_name,
 };
-use const_pool::Pool;
 use lists::{Bytes, Name, Seq};
 use std::alloc::Global;
 
 /// The constant of a ConstantValue attribute (JVMS 4.7.2).
 #[tactic(auto, unfolding(crate::specs::AttributeReading::content, class_input::specs::Reading::within))]
-pub fn constant_value(alloc: Global, pool: &Pool, input: &mut Input) -> Result<Constant, BadClass>
+pub fn constant_value(
+    alloc: Global,
+    pool: &NamedPool,
+    input: &mut Input,
+) -> Result<Constant, BadClass>
     ensures { Gives result input.new (reading.content (reading.constant_content pool.now) (seen input.old)) }
 {
     let len = input.u32()? as usize;
@@ -29,7 +33,7 @@ pub fn constant_value(alloc: Global, pool: &Pool, input: &mut Input) -> Result<C
 
 /// The name of the source file of a SourceFile attribute, as its bytes stand (JVMS 4.7.10).
 #[tactic(auto, unfolding(crate::specs::AttributeReading::content, class_input::specs::Reading::within))]
-pub fn source_file(pool: &Pool, input: &mut Input) -> Result<Bytes, BadClass>
+pub fn source_file(pool: &NamedPool, input: &mut Input) -> Result<Bytes, BadClass>
     ensures { Gives result input.new (reading.content (reading.source_content pool.now) (seen input.old)) }
 {
     let len = input.u32()? as usize;
@@ -41,13 +45,17 @@ pub fn source_file(pool: &Pool, input: &mut Input) -> Result<Bytes, BadClass>
 
 /// A table of class names.
 #[tactic(auto, unfolding(class_names::specs::Steps::table), using(class_input::proofs::Loops::many_goes_on, class_input::proofs::Loops::many_ends, class_input::proofs::Loops::each_is_done))]
-pub fn named_classes(alloc: Global, pool: &Pool, input: &mut Input) -> Result<Seq<Name>, BadClass>
+pub fn named_classes(
+    alloc: Global,
+    pool: &NamedPool,
+    input: &mut Input,
+) -> Result<Seq<Name>, BadClass>
     ensures { Gives result input.new (table (at_index (class_name_at pool.now)) (seen input.old)) }
 {
     let count = input.u16()?;
     let mut names = Seq::new(alloc);
     for _ in 0..count {
-        let name = next_class_name(alloc, pool, input)?;
+        let name = next_class_name(pool, input)?;
         names.push(name)?;
     }
     Ok(names)
@@ -55,7 +63,7 @@ pub fn named_classes(alloc: Global, pool: &Pool, input: &mut Input) -> Result<Se
 
 /// The class names of an Exceptions attribute (JVMS 4.7.5).
 #[tactic(auto, unfolding(crate::specs::AttributeReading::content, class_input::specs::Reading::within))]
-pub fn exceptions(alloc: Global, pool: &Pool, input: &mut Input) -> Result<Seq<Name>, BadClass>
+pub fn exceptions(alloc: Global, pool: &NamedPool, input: &mut Input) -> Result<Seq<Name>, BadClass>
     ensures { Gives result input.new (reading.content (reading.exceptions_content pool.now) (seen input.old)) }
 {
     let len = input.u32()? as usize;
@@ -66,12 +74,12 @@ pub fn exceptions(alloc: Global, pool: &Pool, input: &mut Input) -> Result<Seq<N
 }
 
 #[tactic(auto, unfolding(crate::specs::AttributeReading::inner_row))]
-fn inner_row(alloc: Global, pool: &Pool, input: &mut Input) -> Result<InnerRow, BadClass>
+fn inner_row(pool: &NamedPool, input: &mut Input) -> Result<InnerRow, BadClass>
     ensures { Gives result input.new (reading.inner_row pool.now (seen input.old)) }
 {
-    let inner = next_class_name(alloc, pool, input)?;
-    let outer = next_optional_class_name(alloc, pool, input)?;
-    let name = next_optional_name(alloc, pool, input)?;
+    let inner = next_class_name(pool, input)?;
+    let outer = next_optional_class_name(pool, input)?;
+    let name = next_optional_name(pool, input)?;
     let flags = input.u16()?;
     Ok(InnerRow {
         inner,
@@ -82,13 +90,13 @@ fn inner_row(alloc: Global, pool: &Pool, input: &mut Input) -> Result<InnerRow, 
 }
 
 #[tactic(auto, unfolding(class_names::specs::Steps::table), using(class_input::proofs::Loops::many_goes_on, class_input::proofs::Loops::many_ends, class_input::proofs::Loops::each_is_done))]
-fn inner_rows(alloc: Global, pool: &Pool, input: &mut Input) -> Result<Seq<InnerRow>, BadClass>
+fn inner_rows(alloc: Global, pool: &NamedPool, input: &mut Input) -> Result<Seq<InnerRow>, BadClass>
     ensures { Gives result input.new (reading.inner_content pool.now (seen input.old)) }
 {
     let count = input.u16()?;
     let mut rows = Seq::new(alloc);
     for _ in 0..count {
-        let row = inner_row(alloc, pool, input)?;
+        let row = inner_row(pool, input)?;
         rows.push(row)?;
     }
     Ok(rows)
@@ -98,7 +106,7 @@ fn inner_rows(alloc: Global, pool: &Pool, input: &mut Input) -> Result<Seq<Inner
 #[tactic(auto, unfolding(crate::specs::AttributeReading::content, class_input::specs::Reading::within))]
 pub fn inner_classes(
     alloc: Global,
-    pool: &Pool,
+    pool: &NamedPool,
     input: &mut Input,
 ) -> Result<Seq<InnerRow>, BadClass>
     ensures { Gives result input.new (reading.content (reading.inner_content pool.now) (seen input.old)) }

@@ -9,7 +9,7 @@ use crate::contents::{constant_value, inner_classes, source_file};
 use crate::named::{drop_content, twice};
 use class_input::{BadClass, Input};
 use class_model::{Constant, InnerRow};
-use const_pool::Pool;
+use class_names::NamedPool;
 use lists::{Bytes, Seq};
 use std::alloc::Global;
 
@@ -17,7 +17,7 @@ use std::alloc::Global;
 #[tactic(auto, unfolding(crate::specs::AttributeReading::once))]
 fn one_constant(
     alloc: Global,
-    pool: &Pool,
+    pool: &NamedPool,
     place: usize,
     found: Option<Constant>,
     input: &mut Input,
@@ -34,7 +34,7 @@ fn one_constant(
 #[tactic(auto, unfolding(crate::specs::AttributeReading::one_attribute, class_names::specs::Steps::at_index, const_pool::specs::PoolReading::indexed))]
 fn field_attribute(
     alloc: Global,
-    pool: &Pool,
+    pool: &NamedPool,
     found: Option<Constant>,
     input: &mut Input,
 ) -> Result<Option<Constant>, BadClass>
@@ -53,7 +53,7 @@ fn field_attribute(
 #[tactic(auto, unfolding(crate::specs::AttributeReading::one_read), using(class_input::proofs::Loops::each_goes_on, class_input::proofs::Loops::each_ends, class_input::proofs::Loops::each_is_done))]
 pub fn field_attributes(
     alloc: Global,
-    pool: &Pool,
+    pool: &NamedPool,
     input: &mut Input,
 ) -> Result<Option<Constant>, BadClass>
     ensures { Gives result input.new (reading.one_read pool.now grammar.constant_value (reading.constant_content pool.now) (seen input.old)) }
@@ -72,7 +72,7 @@ pub type ClassAttributes = (Option<Bytes>, Option<Seq<InnerRow>>);
 /// A SourceFile whose name stands at a place, behind attributes that gave `found`.
 #[tactic(auto, unfolding(crate::specs::AttributeReading::once))]
 fn one_source(
-    pool: &Pool,
+    pool: &NamedPool,
     place: usize,
     found: ClassAttributes,
     input: &mut Input,
@@ -90,7 +90,7 @@ fn one_source(
 #[tactic(auto, unfolding(crate::specs::AttributeReading::once))]
 fn one_inner(
     alloc: Global,
-    pool: &Pool,
+    pool: &NamedPool,
     place: usize,
     found: ClassAttributes,
     input: &mut Input,
@@ -108,7 +108,7 @@ fn one_inner(
 #[tactic(auto, unfolding(crate::specs::AttributeReading::two_attribute, class_names::specs::Steps::at_index, const_pool::specs::PoolReading::indexed))]
 fn class_attribute(
     alloc: Global,
-    pool: &Pool,
+    pool: &NamedPool,
     found: ClassAttributes,
     input: &mut Input,
 ) -> Result<ClassAttributes, BadClass>
@@ -131,7 +131,7 @@ fn class_attribute(
 #[tactic(auto, unfolding(crate::specs::AttributeReading::two_read), using(class_input::proofs::Loops::each_goes_on, class_input::proofs::Loops::each_ends, class_input::proofs::Loops::each_is_done))]
 pub fn class_attributes(
     alloc: Global,
-    pool: &Pool,
+    pool: &NamedPool,
     input: &mut Input,
 ) -> Result<ClassAttributes, BadClass>
     ensures { Gives result input.new (reading.two_read pool.now grammar.source_file (reading.source_content pool.now) grammar.inner_classes (reading.inner_content pool.now) (seen input.old)) }

@@ -7,7 +7,7 @@ ghost use Rattle.code_attribute.proofs.ContentLaws.{content_exact};
 use class_file::{CodeReader, MethodHead};
 use class_input::{BadClass, Input};
 use class_model::CodeDef;
-use const_pool::Pool;
+use class_names::NamedPool;
 use lists::Name;
 use std::alloc::Global;
 
@@ -24,7 +24,7 @@ impl CodeReader for WholeCode {
     fn read_code(
         &self,
         alloc: Global,
-        pool: &Pool,
+        pool: &NamedPool,
         class: &Name,
         head: &MethodHead,
         input: &mut Input,

@@ -126,7 +126,7 @@ fn a_long_text(rt: HostRuntime) -> Result<(), Fail> {
     for _ in 0..65_536 {
         units.push(97)?;
     }
-    class.name = Name::from_vec(units);
+    class.name = Name::from_vec(alloc, units)?;
     assert!(rt; is_shaped(&class));
     let answer = encode_class(alloc, &class);
     assert!(rt; matches!(&answer, Err(EncodeStop::Limit(EncodeKind::Text, 65_536))));

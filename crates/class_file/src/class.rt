@@ -11,8 +11,7 @@ use crate::method::{CodeReader, items, methods};
 use class_attributes::{class_attributes, named_classes};
 use class_input::{BadClass, BadKind, Input};
 use class_model::ClassDef;
-use class_names::{next_class_name, next_optional_class_name};
-use const_pool::Pool;
+use class_names::{NamedPool, next_class_name, next_optional_class_name};
 use std::alloc::Global;
 
 #[tactic(auto, unfolding(crate::specs::ClassReading::magic))]
@@ -36,14 +35,14 @@ fn class_body<C: CodeReader>(
     reader: &C,
     minor: u16,
     major: u16,
-    pool: &Pool,
+    pool: &NamedPool,
     input: &mut Input,
 ) -> Result<ClassDef, BadClass>
     ensures { Gives result input.new (reading.class_body C.code minor major pool.now (seen input.old)) }
 {
     let flags = input.u16()?;
-    let name = next_class_name(alloc, pool, input)?;
-    let super_name = next_optional_class_name(alloc, pool, input)?;
+    let name = next_class_name(pool, input)?;
+    let super_name = next_optional_class_name(pool, input)?;
     let interfaces = named_classes(alloc, pool, input)?;
     let fields = fields(alloc, pool, input)?;
     let methods = methods(alloc, reader, pool, &name, input)?;
@@ -73,7 +72,7 @@ fn class_file<C: CodeReader>(
     magic(input)?;
     let minor = input.u16()?;
     let major = input.u16()?;
-    let pool = Pool::read(alloc, input)?;
+    let pool = NamedPool::read(alloc, input)?;
     class_body(alloc, reader, minor, major, &pool, input)
 }
 

@@ -8,18 +8,17 @@ ghost use Rattle.class_file.specs.ClassReading as reading;
 use class_attributes::field_attributes;
 use class_input::{BadClass, Input};
 use class_model::FieldDef;
-use class_names::{next_field_type, next_name};
-use const_pool::Pool;
+use class_names::{NamedPool, next_field_type, next_name};
 use lists::Seq;
 use std::alloc::Global;
 
 #[tactic(auto, unfolding(crate::specs::ClassReading::field))]
-fn read_field(alloc: Global, pool: &Pool, input: &mut Input) -> Result<FieldDef, BadClass>
+fn read_field(alloc: Global, pool: &NamedPool, input: &mut Input) -> Result<FieldDef, BadClass>
     ensures { Gives result input.new (reading.field pool.now (seen input.old)) }
 {
     let flags = input.u16()?;
-    let name = next_name(alloc, pool, input)?;
-    let ty = next_field_type(alloc, pool, input)?;
+    let name = next_name(pool, input)?;
+    let ty = next_field_type(pool, input)?;
     let constant = field_attributes(alloc, pool, input)?;
     Ok(FieldDef {
         flags,
@@ -30,7 +29,7 @@ fn read_field(alloc: Global, pool: &Pool, input: &mut Input) -> Result<FieldDef,
 }
 
 #[tactic(auto, unfolding(class_names::specs::Steps::table), using(class_input::proofs::Loops::many_goes_on, class_input::proofs::Loops::many_ends, class_input::proofs::Loops::each_is_done))]
-pub fn fields(alloc: Global, pool: &Pool, input: &mut Input) -> Result<Seq<FieldDef>, BadClass>
+pub fn fields(alloc: Global, pool: &NamedPool, input: &mut Input) -> Result<Seq<FieldDef>, BadClass>
     ensures { Gives result input.new (table (reading.field pool.now) (seen input.old)) }
 {
     let count = input.u16()?;

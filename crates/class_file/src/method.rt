@@ -15,8 +15,7 @@ ghost use Rattle.class_file.specs.declared.method.MethodHead.{MethodHead};
 use class_attributes::{drop_content, exceptions, twice};
 use class_input::{BadClass, Input};
 use class_model::{CodeDef, MethodDef, MethodDesc};
-use class_names::{next_method_desc, next_name};
-use const_pool::Pool;
+use class_names::{NamedPool, next_method_desc, next_name};
 use lists::{Name, Seq};
 use std::alloc::Global;
 
@@ -41,7 +40,7 @@ pub trait CodeReader {
     fn read_code(
         &self,
         alloc: Global,
-        pool: &Pool,
+        pool: &NamedPool,
         class: &Name,
         head: &MethodHead,
         input: &mut Input,
@@ -56,12 +55,12 @@ pub trait CodeReader {
 pub type MethodAttributes = (Option<CodeDef>, Option<Seq<Name>>);
 
 #[tactic(auto, unfolding(crate::specs::ClassReading::method_head))]
-fn method_head(alloc: Global, pool: &Pool, input: &mut Input) -> Result<MethodHead, BadClass>
+fn method_head(pool: &NamedPool, input: &mut Input) -> Result<MethodHead, BadClass>
     ensures { Gives result input.new (reading.method_head pool.now (seen input.old)) }
 {
     let flags = input.u16()?;
-    let name = next_name(alloc, pool, input)?;
-    let desc = next_method_desc(alloc, pool, input)?;
+    let name = next_name(pool, input)?;
+    let desc = next_method_desc(pool, input)?;
     Ok(MethodHead { flags, name, desc })
 }
 
@@ -70,7 +69,7 @@ fn method_head(alloc: Global, pool: &Pool, input: &mut Input) -> Result<MethodHe
 fn code_content<C: CodeReader>(
     alloc: Global,
     reader: &C,
-    pool: &Pool,
+    pool: &NamedPool,
     class: &Name,
     head: &MethodHead,
     input: &mut Input,
@@ -89,7 +88,7 @@ fn code_content<C: CodeReader>(
 fn one_code<C: CodeReader>(
     alloc: Global,
     reader: &C,
-    pool: &Pool,
+    pool: &NamedPool,
     class: &Name,
     head: &MethodHead,
     place: usize,
@@ -110,7 +109,7 @@ fn one_code<C: CodeReader>(
 #[tactic(auto, unfolding(class_attributes::specs::AttributeReading::once))]
 fn one_exceptions(
     alloc: Global,
-    pool: &Pool,
+    pool: &NamedPool,
     place: usize,
     found: MethodAttributes,
     input: &mut Input,
@@ -129,7 +128,7 @@ fn one_exceptions(
 fn method_attribute<C: CodeReader>(
     alloc: Global,
     reader: &C,
-    pool: &Pool,
+    pool: &NamedPool,
     class: &Name,
     head: &MethodHead,
     found: MethodAttributes,
@@ -153,7 +152,7 @@ fn method_attribute<C: CodeReader>(
 fn method_attributes<C: CodeReader>(
     alloc: Global,
     reader: &C,
-    pool: &Pool,
+    pool: &NamedPool,
     class: &Name,
     head: &MethodHead,
     input: &mut Input,
@@ -182,13 +181,13 @@ pub fn items<T>(alloc: Global, found: Option<Seq<T>>) -> Seq<T>
 fn read_method<C: CodeReader>(
     alloc: Global,
     reader: &C,
-    pool: &Pool,
+    pool: &NamedPool,
     class: &Name,
     input: &mut Input,
 ) -> Result<MethodDef, BadClass>
     ensures { Gives result input.new (reading.method C.code pool.now class.now (seen input.old)) }
 {
-    let head = method_head(alloc, pool, input)?;
+    let head = method_head(pool, input)?;
     let (code, throws) = method_attributes(alloc, reader, pool, class, &head, input)?;
     let MethodHead { flags, name, desc } = head;
     Ok(MethodDef {
@@ -204,7 +203,7 @@ fn read_method<C: CodeReader>(
 pub fn methods<C: CodeReader>(
     alloc: Global,
     reader: &C,
-    pool: &Pool,
+    pool: &NamedPool,
     class: &Name,
     input: &mut Input,
 ) -> Result<Seq<MethodDef>, BadClass>

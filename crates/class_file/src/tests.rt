@@ -6,7 +6,7 @@ ghost use Rattle.class_input.proofs.Laws.{here_exact, refused_exact};
 use super::*;
 use class_input::{BadClass, BadKind, Input};
 use class_model::{ClassDef, CodeDef, Constant};
-use const_pool::Pool;
+use class_names::NamedPool;
 use lists::Name;
 use std::alloc::{AllocError, Global};
 use std::test::Fail;
@@ -24,7 +24,7 @@ impl CodeReader for NoCode {
     fn read_code(
         &self,
         _alloc: Global,
-        _pool: &Pool,
+        _pool: &NamedPool,
         _class: &Name,
         _head: &MethodHead,
         input: &mut Input,

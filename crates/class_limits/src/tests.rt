@@ -176,7 +176,7 @@ fn texts_are_told_before_counts(rt: HostRuntime) -> Result<(), Fail> {
     for _ in 0..21_846 {
         text.push(0x20ac)?;
     }
-    class.super_name = Some(Name::from_vec(text));
+    class.super_name = Some(Name::from_vec(alloc, text)?);
     assert_eq!(rt;
         check_limits(alloc, &class),
         limit(EncodeKind::Text, 65_538)

@@ -49,7 +49,7 @@ pub fn print_type(alloc: Global, ty: &JType) -> Result<Name, AllocError>
 {
     let mut out = Vec::new(alloc);
     add_type(ty, &mut out)?;
-    Ok(Name::from_vec(out))
+    Name::from_vec(alloc, out)
 }
 
 /// The text of a method descriptor (JVMS 4.3.3).
@@ -68,7 +68,7 @@ pub fn print_desc(alloc: Global, desc: &MethodDesc) -> Result<Name, AllocError>
         Some(ty) => add_type(ty, &mut out)?,
         None => out.push(u16::from(b'V'))?,
     }
-    Ok(Name::from_vec(out))
+    Name::from_vec(alloc, out)
 }
 
 /// The words of a type.

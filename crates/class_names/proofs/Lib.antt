@@ -1,3 +1,4 @@
 pub mod StepLaws
 pub mod TextLaws
 pub mod NameLaws
+pub mod SpelledLaws

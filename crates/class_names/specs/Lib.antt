@@ -8,3 +8,4 @@ pub mod Pieces
 pub mod Names
 pub mod Steps
 pub mod NameReading
+pub mod Spelled

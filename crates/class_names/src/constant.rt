@@ -8,16 +8,17 @@ ghost use Rattle.class_names.specs.Steps.{at_index};
 ghost use Rattle.class_names.specs.NameReading as reading;
 
 use crate::member::{no_entry, wrong_kind};
+use crate::named_pool::NamedPool;
 use crate::text::text_at;
 use class_input::{BadClass, Input};
 use class_model::{Constant, Insn};
-use const_pool::{Entry, Pool};
+use const_pool::Entry;
 use lists::Units;
 use std::alloc::Global;
 
 /// The index of the text of a String.
 #[tactic(auto, unfolding(const_pool::specs::PoolReading::named))]
-fn string_text(pool: &Pool, place: usize, index: u16) -> Result<u16, BadClass>
+fn string_text(pool: &NamedPool, place: usize, index: u16) -> Result<u16, BadClass>
     ensures { Answers (λ text. text) result (named as_string pool.now place index) }
 {
     match pool.get(index) {
@@ -29,7 +30,12 @@ fn string_text(pool: &Pool, place: usize, index: u16) -> Result<u16, BadClass>
 
 /// The text of the String that an index names, which stands at a place (JVMS 4.4.3).
 #[tactic(auto, unfolding(crate::specs::NameReading::string_at))]
-pub fn string_at(alloc: Global, pool: &Pool, place: usize, index: u16) -> Result<Units, BadClass>
+pub fn string_at(
+    alloc: Global,
+    pool: &NamedPool,
+    place: usize,
+    index: u16,
+) -> Result<Units, BadClass>
     ensures { Answers (λ units. units) result (reading.string_at pool.now place index) }
 {
     let text = string_text(pool, place, index)?;
@@ -38,7 +44,7 @@ pub fn string_at(alloc: Global, pool: &Pool, place: usize, index: u16) -> Result
 
 /// The number of the Long that an index names, which stands at a place (JVMS 4.4.5), as `ldc2_w` pushes it.
 #[tactic(auto, unfolding(const_pool::specs::PoolReading::named))]
-pub fn long_at(pool: &Pool, place: usize, index: u16) -> Result<i64, BadClass>
+pub fn long_at(pool: &NamedPool, place: usize, index: u16) -> Result<i64, BadClass>
     ensures { Answers (λ n. n) result (reading.long_at pool.now place index) }
 {
     match pool.get(index) {
@@ -50,7 +56,12 @@ pub fn long_at(pool: &Pool, place: usize, index: u16) -> Result<i64, BadClass>
 
 /// What `ldc` and `ldc_w` of an index push, which stands at a place: an Integer or a String.
 #[tactic(auto, unfolding(crate::specs::NameReading::pushed_at, crate::specs::NameReading::pushed, const_pool::specs::PoolReading::named))]
-pub fn pushed_at(alloc: Global, pool: &Pool, place: usize, index: u16) -> Result<Insn, BadClass>
+pub fn pushed_at(
+    alloc: Global,
+    pool: &NamedPool,
+    place: usize,
+    index: u16,
+) -> Result<Insn, BadClass>
     ensures { Answers (λ insn. insn) result (reading.pushed_at pool.now place index) }
 {
     match pool.get(index) {
@@ -65,7 +76,7 @@ pub fn pushed_at(alloc: Global, pool: &Pool, place: usize, index: u16) -> Result
 #[tactic(auto, unfolding(crate::specs::NameReading::constant_at, crate::specs::NameReading::constant, const_pool::specs::PoolReading::named))]
 pub fn constant_at(
     alloc: Global,
-    pool: &Pool,
+    pool: &NamedPool,
     place: usize,
     index: u16,
 ) -> Result<Constant, BadClass>
@@ -82,7 +93,11 @@ pub fn constant_at(
 
 /// The constant that the next index names.
 #[tactic(auto, unfolding(crate::specs::Steps::at_index))]
-pub fn next_constant(alloc: Global, pool: &Pool, input: &mut Input) -> Result<Constant, BadClass>
+pub fn next_constant(
+    alloc: Global,
+    pool: &NamedPool,
+    input: &mut Input,
+) -> Result<Constant, BadClass>
     ensures { Gives result input.new (at_index (reading.constant_at pool.now) (seen input.old)) }
 {
     let place = input.at;

@@ -7,6 +7,7 @@
 mod class;
 mod constant;
 mod member;
+mod named_pool;
 mod text;
 
 pub use class::{
@@ -15,6 +16,7 @@ pub use class::{
 };
 pub use constant::{constant_at, long_at, next_constant, pushed_at, string_at};
 pub use member::{MethodEntry, field_at, method_at, next_field, next_method};
+pub use named_pool::{NamedPool, Spelled};
 pub use text::{name_at, next_bytes, next_name, next_optional_name, text_at};
 
 #[cfg(test)]

@@ -10,11 +10,11 @@ ghost use Rattle.class_names.specs.Steps.{at_index};
 ghost use Rattle.class_names.specs.NameReading as reading;
 
 use crate::class::{class_name_at, class_type_at, field_type_at, method_desc_at};
+use crate::named_pool::NamedPool;
 use crate::text::name_at;
 use class_input::{BadClass, BadKind, Input};
 use class_model::{FieldRef, MethodRef};
-use const_pool::{Entry, Pool};
-use std::alloc::Global;
+use const_pool::Entry;
 
 /// The entries by which a method is named at some place of a class file.
 #[derive(Clone, Copy, Debug, PartialEq, Eq)]
@@ -49,7 +49,7 @@ pub fn wrong_kind(place: usize, index: u16) -> BadClass
 
 /// The class and the name with its type of a field, by their indices.
 #[tactic(auto, unfolding(const_pool::specs::PoolReading::named))]
-fn field_parts(pool: &Pool, place: usize, index: u16) -> Result<(u16, u16), BadClass>
+fn field_parts(pool: &NamedPool, place: usize, index: u16) -> Result<(u16, u16), BadClass>
     ensures { Answers (λ parts. parts) result (named as_field pool.now place index) }
 {
     match pool.get(index) {
@@ -64,7 +64,7 @@ fn field_parts(pool: &Pool, place: usize, index: u16) -> Result<(u16, u16), BadC
 #[tactic(auto, unfolding(const_pool::specs::PoolReading::named))]
 fn method_parts(
     kind: MethodEntry,
-    pool: &Pool,
+    pool: &NamedPool,
     place: usize,
     index: u16,
 ) -> Result<(u16, u16, bool), BadClass>
@@ -85,44 +85,43 @@ fn method_parts(
 
 /// The field that an index names, which stands at a place; its class is read as a name.
 #[tactic(auto, unfolding(crate::specs::NameReading::field_at))]
-pub fn field_at(alloc: Global, pool: &Pool, place: usize, index: u16) -> Result<FieldRef, BadClass>
+pub fn field_at(pool: &NamedPool, place: usize, index: u16) -> Result<FieldRef, BadClass>
     ensures { Answers (λ field. field) result (reading.field_at pool.now place index) }
 {
     let (class, pair) = field_parts(pool, place, index)?;
-    let class = class_name_at(alloc, pool, place, class)?;
+    let class = class_name_at(pool, place, class)?;
     let (name, ty) = pool.name_and_type_at(place, pair)?;
-    let name = name_at(alloc, pool, place, name)?;
-    let ty = field_type_at(alloc, pool, place, ty)?;
+    let name = name_at(pool, place, name)?;
+    let ty = field_type_at(pool, place, ty)?;
     Ok(FieldRef { class, name, ty })
 }
 
 /// The field that the next index names.
 #[tactic(auto, unfolding(crate::specs::Steps::at_index))]
-pub fn next_field(alloc: Global, pool: &Pool, input: &mut Input) -> Result<FieldRef, BadClass>
+pub fn next_field(pool: &NamedPool, input: &mut Input) -> Result<FieldRef, BadClass>
     ensures { Gives result input.new (at_index (reading.field_at pool.now) (seen input.old)) }
 {
     let place = input.at;
     let index = input.u16()?;
-    field_at(alloc, pool, place, index)
+    field_at(pool, place, index)
 }
 
 /// The method that an index names, which stands at a place, by an entry of a kind that is taken there; its class
 /// is read as a type.
 #[tactic(auto, unfolding(crate::specs::NameReading::method_at))]
 pub fn method_at(
-    alloc: Global,
     kind: MethodEntry,
-    pool: &Pool,
+    pool: &NamedPool,
     place: usize,
     index: u16,
 ) -> Result<MethodRef, BadClass>
     ensures { Answers (λ method. method) result (reading.method_at kind pool.now place index) }
 {
     let (class, pair, in_interface) = method_parts(kind, pool, place, index)?;
-    let class = class_type_at(alloc, pool, place, class)?;
+    let class = class_type_at(pool, place, class)?;
     let (name, desc) = pool.name_and_type_at(place, pair)?;
-    let name = name_at(alloc, pool, place, name)?;
-    let desc = method_desc_at(alloc, pool, place, desc)?;
+    let name = name_at(pool, place, name)?;
+    let desc = method_desc_at(pool, place, desc)?;
     Ok(MethodRef {
         class,
         name,
@@ -134,14 +133,13 @@ pub fn method_at(
 /// The method that the next index names.
 #[tactic(auto, unfolding(crate::specs::Steps::at_index))]
 pub fn next_method(
-    alloc: Global,
     kind: MethodEntry,
-    pool: &Pool,
+    pool: &NamedPool,
     input: &mut Input,
 ) -> Result<MethodRef, BadClass>
     ensures { Gives result input.new (at_index (reading.method_at kind pool.now) (seen input.old)) }
 {
     let place = input.at;
     let index = input.u16()?;
-    method_at(alloc, kind, pool, place, index)
+    method_at(kind, pool, place, index)
 }

@@ -1,7 +1,6 @@
 use super::*;
 use class_input::{BadClass, BadKind, Input};
 use class_model::{Constant, Insn};
-use const_pool::Pool;
 use std::test::Fail;
 
 const POOL: [u8; 97] = [
@@ -36,22 +35,22 @@ fn index(k: u8) -> [u8; 2] {
 #[test]
 fn next_ones(rt: HostRuntime) -> Result<(), Fail> {
     let alloc = rt.alloc();
-    let (pool, _) = Pool::decode(alloc, &POOL)?;
-    assert!(rt; next_name(alloc, &pool, &mut Input::new(&index(7)))?.is("x"));
-    assert!(rt; next_optional_name(alloc, &pool, &mut Input::new(&index(0)))?.is_none());
+    let pool = NamedPool::read(alloc, &mut Input::new(&POOL))?;
+    assert!(rt; next_name(&pool, &mut Input::new(&index(7)))?.is("x"));
+    assert!(rt; next_optional_name(&pool, &mut Input::new(&index(0)))?.is_none());
     assert!(rt; next_bytes(&pool, &mut Input::new(&index(3)))?.as_slice() == b"[I".as_slice());
-    assert!(rt; next_class_name(alloc, &pool, &mut Input::new(&index(18)))?.is(";"));
-    let outer = next_optional_class_name(alloc, &pool, &mut Input::new(&index(2)))?;
+    assert!(rt; next_class_name(&pool, &mut Input::new(&index(18)))?.is(";"));
+    let outer = next_optional_class_name(&pool, &mut Input::new(&index(2)))?;
     assert!(rt; matches!(&outer, Some(name) if name.is("a/B")));
     assert_eq!(rt;
-        next_class_type(alloc, &pool, &mut Input::new(&index(4)))?.depth,
+        next_class_type(&pool, &mut Input::new(&index(4)))?.depth,
         1
     );
     assert_eq!(rt;
-        next_field_type(alloc, &pool, &mut Input::new(&index(5)))?.depth,
+        next_field_type(&pool, &mut Input::new(&index(5)))?.depth,
         0
     );
-    let desc = next_method_desc(alloc, &pool, &mut Input::new(&index(6)))?;
+    let desc = next_method_desc(&pool, &mut Input::new(&index(6)))?;
     assert!(rt; desc.params.is_empty() && desc.result.is_none());
     let constant = next_constant(alloc, &pool, &mut Input::new(&index(14)))?;
     assert!(rt; matches!(&constant, Constant::Long(-3)));
@@ -61,13 +60,13 @@ fn next_ones(rt: HostRuntime) -> Result<(), Fail> {
 #[test]
 fn members(rt: HostRuntime) -> Result<(), Fail> {
     let alloc = rt.alloc();
-    let (pool, _) = Pool::decode(alloc, &POOL)?;
-    let field = next_field(alloc, &pool, &mut Input::new(&index(10)))?;
+    let pool = NamedPool::read(alloc, &mut Input::new(&POOL))?;
+    let field = next_field(&pool, &mut Input::new(&index(10)))?;
     assert!(rt; field.class.is("a/B") && field.name.is("x") && field.ty.depth == 0);
     let kind = MethodEntry::OfClass;
-    let method = next_method(alloc, kind, &pool, &mut Input::new(&index(11)))?;
+    let method = next_method(kind, &pool, &mut Input::new(&index(11)))?;
     assert!(rt; method.class.depth == 1 && method.name.is("x") && !method.in_interface);
-    let method = method_at(alloc, MethodEntry::Either, &pool, 0, 12)?;
+    let method = method_at(MethodEntry::Either, &pool, 0, 12)?;
     assert!(rt; method.class.depth == 0 && method.in_interface);
     Ok(())
 }
@@ -75,7 +74,7 @@ fn members(rt: HostRuntime) -> Result<(), Fail> {
 #[test]
 fn constants(rt: HostRuntime) -> Result<(), Fail> {
     let alloc = rt.alloc();
-    let (pool, _) = Pool::decode(alloc, &POOL)?;
+    let pool = NamedPool::read(alloc, &mut Input::new(&POOL))?;
     assert!(rt; matches!(&pushed_at(alloc, &pool, 0, 13)?, Insn::PushInt(-2)));
     let text = pushed_at(alloc, &pool, 0, 16)?;
     assert!(rt; matches!(&text, Insn::PushString(text) if text.as_slice() == [120].as_slice()));
@@ -92,19 +91,19 @@ fn is_bad<T: Drop>(answer: Result<T, BadClass>, kind: BadKind) -> bool {
 #[test]
 fn refusals(rt: HostRuntime) -> Result<(), Fail> {
     let alloc = rt.alloc();
-    let (pool, _) = Pool::decode(alloc, &POOL)?;
+    let pool = NamedPool::read(alloc, &mut Input::new(&POOL))?;
     assert!(rt; is_bad(text_at(alloc, &pool, 9, 0), BadKind::PoolIndex(0)));
     assert!(rt; is_bad(long_at(&pool, 9, 15), BadKind::PoolIndex(15)));
-    assert!(rt; is_bad(class_name_at(alloc, &pool, 9, 22), BadKind::PoolIndex(22)));
-    assert!(rt; is_bad(class_name_at(alloc, &pool, 9, 1), BadKind::PoolKind(1)));
-    assert!(rt; is_bad(class_type_at(alloc, &pool, 9, 18), BadKind::Descriptor));
-    assert!(rt; is_bad(field_at(alloc, &pool, 9, 20), BadKind::Descriptor));
+    assert!(rt; is_bad(class_name_at(&pool, 9, 22), BadKind::PoolIndex(22)));
+    assert!(rt; is_bad(class_name_at(&pool, 9, 1), BadKind::PoolKind(1)));
+    assert!(rt; is_bad(class_type_at(&pool, 9, 18), BadKind::Descriptor));
+    assert!(rt; is_bad(field_at(&pool, 9, 20), BadKind::Descriptor));
     assert!(rt; is_bad(pushed_at(alloc, &pool, 9, 2), BadKind::PoolKind(2)));
     assert!(rt; is_bad(pushed_at(alloc, &pool, 9, 14), BadKind::PoolKind(14)));
     assert!(rt; is_bad(constant_at(alloc, &pool, 9, 21), BadKind::PoolKind(21)));
-    let of_class = method_at(alloc, MethodEntry::OfClass, &pool, 9, 12);
+    let of_class = method_at(MethodEntry::OfClass, &pool, 9, 12);
     assert!(rt; is_bad(of_class, BadKind::PoolKind(12)));
-    let of_interface = method_at(alloc, MethodEntry::OfInterface, &pool, 9, 11);
+    let of_interface = method_at(MethodEntry::OfInterface, &pool, 9, 11);
     assert!(rt; is_bad(of_interface, BadKind::PoolKind(11)));
     Ok(())
 }

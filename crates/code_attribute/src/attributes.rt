@@ -10,7 +10,7 @@ use crate::lines::{Lines, line_content};
 use class_attributes::{drop_content, twice};
 use class_input::{BadClass, Input};
 use class_model::{Frame, VType};
-use const_pool::Pool;
+use class_names::NamedPool;
 use frame_tables::{Code, read_frames};
 use lists::Seq;
 use std::alloc::Global;
@@ -22,7 +22,7 @@ pub type Found = (Option<Seq<(u32, Frame)>>, Lines);
 #[tactic(auto, unfolding(class_attributes::specs::AttributeReading::content, class_input::specs::Reading::within))]
 fn frame_content(
     alloc: Global,
-    pool: &Pool,
+    pool: &NamedPool,
     code: &Code,
     first: &Seq<VType>,
     input: &mut Input,
@@ -40,7 +40,7 @@ fn frame_content(
 #[tactic(auto, unfolding(class_attributes::specs::AttributeReading::once))]
 fn one_frames(
     alloc: Global,
-    pool: &Pool,
+    pool: &NamedPool,
     code: &Code,
     first: &Seq<VType>,
     place: usize,
@@ -70,7 +70,7 @@ fn one_lines(alloc: Global, code: &Code, found: Found, input: &mut Input) -> Res
 #[tactic(auto, unfolding(crate::specs::CodeContentReading::code_attribute, class_names::specs::Steps::at_index, const_pool::specs::PoolReading::indexed))]
 fn code_attribute(
     alloc: Global,
-    pool: &Pool,
+    pool: &NamedPool,
     code: &Code,
     first: &Seq<VType>,
     found: Found,
@@ -94,7 +94,7 @@ fn code_attribute(
 #[tactic(auto, using(class_input::proofs::Loops::each_goes_on, class_input::proofs::Loops::each_ends, class_input::proofs::Loops::each_is_done))]
 fn attributes(
     alloc: Global,
-    pool: &Pool,
+    pool: &NamedPool,
     code: &Code,
     first: &Seq<VType>,
     count: u16,
@@ -113,7 +113,7 @@ fn attributes(
 #[tactic(auto, unfolding(crate::specs::CodeContentReading::code_attributes))]
 pub fn code_attributes(
     alloc: Global,
-    pool: &Pool,
+    pool: &NamedPool,
     code: &Code,
     first: &Seq<VType>,
     input: &mut Input,

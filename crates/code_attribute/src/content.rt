@@ -13,8 +13,8 @@ use crate::attributes::code_attributes;
 use class_file::MethodHead;
 use class_input::{BadClass, BadKind, Input};
 use class_model::CodeDef;
+use class_names::NamedPool;
 use code_tables::read_handlers;
-use const_pool::Pool;
 use frame_tables::first_types;
 use insn_code::read_insns;
 use lists::{Name, Seq};
@@ -57,7 +57,7 @@ fn items<T>(alloc: Global, found: Option<Seq<T>>) -> Seq<T>
 #[tactic(auto, unfolding(crate::specs::CodeContentReading::code_content))]
 fn code_content(
     alloc: Global,
-    pool: &Pool,
+    pool: &NamedPool,
     class: &Name,
     head: &MethodHead,
     input: &mut Input,
@@ -89,7 +89,7 @@ fn code_content(
 /// for a LineNumberTable that brings the rows past 65,535, at its count.
 pub fn read_code(
     alloc: Global,
-    pool: &Pool,
+    pool: &NamedPool,
     class: &Name,
     head: &MethodHead,
     input: &mut Input,

@@ -2,7 +2,7 @@ use crate::read_code;
 use class_file::MethodHead;
 use class_input::{BadClass, BadKind, Input};
 use class_model::{CodeDef, DescStop, parse_desc};
-use const_pool::Pool;
+use class_names::NamedPool;
 use lists::Name;
 use std::alloc::{AllocError, Global};
 use std::test::Fail;
@@ -27,7 +27,7 @@ fn put_pool(out: &mut Vec<u8>) -> Result<(), AllocError> {
 fn read(alloc: Global, content: &[u8]) -> Result<CodeDef, BadClass> {
     let mut entries = Vec::new(alloc);
     put_pool(&mut entries)?;
-    let pool = Pool::read(alloc, &mut Input::new(&entries))?;
+    let pool = NamedPool::read(alloc, &mut Input::new(&entries))?;
     let head = head(alloc).map_err(|_| BadClass::Memory)?;
     let class = Name::from_str(alloc, "A")?;
     read_code(alloc, &pool, &class, &head, &mut Input::new(content))

@@ -10,25 +10,19 @@ ghost use Rattle.code_tables.specs.TableReading as reading;
 use crate::offsets::{are_bytes, next_end, next_start};
 use class_input::{BadClass, Input};
 use class_model::Handler;
-use class_names::next_optional_class_name;
-use const_pool::Pool;
+use class_names::{NamedPool, next_optional_class_name};
 use insn_code::Starts;
 use lists::Seq;
 use std::alloc::Global;
 
 #[tactic(auto, unfolding(crate::specs::TableReading::handler))]
-fn handler(
-    alloc: Global,
-    pool: &Pool,
-    starts: &Starts,
-    input: &mut Input,
-) -> Result<Handler, BadClass>
+fn handler(pool: &NamedPool, starts: &Starts, input: &mut Input) -> Result<Handler, BadClass>
     ensures { Gives result input.new (reading.handler pool.now starts.now (seen input.old)) }
 {
     let start = next_start(starts, input)?;
     let end = next_end(starts, start, input)?;
     let target = next_start(starts, input)?;
-    let caught = next_optional_class_name(alloc, pool, input)?;
+    let caught = next_optional_class_name(pool, input)?;
     Ok(Handler {
         start,
         end,
@@ -40,7 +34,7 @@ fn handler(
 #[tactic(auto, using(class_input::proofs::Loops::many_goes_on, class_input::proofs::Loops::many_ends, class_input::proofs::Loops::each_is_done))]
 fn handler_rows(
     alloc: Global,
-    pool: &Pool,
+    pool: &NamedPool,
     starts: &Starts,
     count: u16,
     input: &mut Input,
@@ -49,7 +43,7 @@ fn handler_rows(
 {
     let mut handlers = Seq::new(alloc);
     for _ in 0..count {
-        let handler = handler(alloc, pool, starts, input)?;
+        let handler = handler(pool, starts, input)?;
         handlers.push(handler)?;
     }
     Ok(handlers)
@@ -58,7 +52,7 @@ fn handler_rows(
 #[tactic(auto, unfolding(class_names::specs::Steps::table))]
 fn handler_table(
     alloc: Global,
-    pool: &Pool,
+    pool: &NamedPool,
     starts: &Starts,
     input: &mut Input,
 ) -> Result<Seq<Handler>, BadClass>
@@ -72,7 +66,7 @@ fn handler_table(
 /// instruction, or at an end that is not behind its start; an end may be the length of the code.
 pub fn read_handlers(
     alloc: Global,
-    pool: &Pool,
+    pool: &NamedPool,
     starts: &Starts,
     input: &mut Input,
 ) -> Result<Seq<Handler>, BadClass>

@@ -1,6 +1,6 @@
 //! A pool that was read.
 
-ghost use Rattle.std.specs.Prelude.{◌≡◌, ◌++◌, List, ℕ, length, All, IfOk, IfSome};
+ghost use Rattle.std.specs.Prelude.{◌≡◌, ◌<◌, ◌++◌, List, ℕ, length, slice_get, Some, All, IfOk, IfSome};
 ghost use Rattle.std.specs.Option.{option_copied};
 ghost use Rattle.class_input.specs.Reading.{Answers, Gives, GivesBy, seen};
 ghost use Rattle.modified_utf8.specs.Text.{IsText};
@@ -75,6 +75,21 @@ impl Pool {
         let mut input = Input::new(bytes);
         let pool = Pool::read(alloc, &mut input)?;
         Ok((pool, input.at))
+    }
+
+    /// The number of indices, the second ones of Longs and Doubles among them.
+    pub fn len(&self) -> usize
+        ensures { result ≡ length self.now }
+    {
+        self.slots.len()
+    }
+
+    /// The entry at a place that is there, counted from 0; `None` for the second index of a Long or a Double.
+    pub fn slot(&self, at: usize) -> Option<&Entry>
+        requires { at < length self.now }
+        ensures { slice_get self.now at ≡ Some (option_copied result) }
+    {
+        self.slots[at].entry.as_ref()
     }
 
     /// The entry that an index names; `None` for 0, past the end and for the second index of a Long or a Double.

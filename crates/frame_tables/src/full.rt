@@ -8,8 +8,7 @@ ghost use Rattle.frame_tables.specs.FrameReading as reading;
 use crate::names::{Code, frame_start, new_at};
 use class_input::BadClass;
 use class_model::{Frame, VType};
-use class_names::class_type_at;
-use const_pool::Pool;
+use class_names::{NamedPool, class_type_at};
 use lists::Seq;
 use stack_maps::{RawFrame, RawType};
 use std::alloc::{AllocError, Global};
@@ -27,8 +26,7 @@ fn entry(first: &[VType], number: u16) -> Result<VType, AllocError>
 /// A type of a table at a place.
 #[tactic(auto, unfolding(crate::specs::FrameReading::vtype))]
 fn vtype(
-    alloc: Global,
-    pool: &Pool,
+    pool: &NamedPool,
     code: &Code,
     first: &[VType],
     place: usize,
@@ -42,7 +40,7 @@ fn vtype(
         RawType::Long => Ok(VType::Long),
         RawType::Null => Ok(VType::Null),
         RawType::UninitThis => Ok(VType::UninitThis),
-        RawType::Object(index) => Ok(VType::Ref(class_type_at(alloc, pool, place, index)?)),
+        RawType::Object(index) => Ok(VType::Ref(class_type_at(pool, place, index)?)),
         RawType::Uninit(offset) => Ok(VType::Uninit(new_at(code, place, offset)?)),
         RawType::First(number) => Ok(entry(first, number)?),
     }
@@ -51,7 +49,7 @@ fn vtype(
 #[tactic(auto, using(crate::proofs::Loops::each_goes_on, crate::proofs::Loops::each_ends, crate::proofs::Loops::each_is_done))]
 fn vtypes(
     alloc: Global,
-    pool: &Pool,
+    pool: &NamedPool,
     code: &Code,
     first: &[VType],
     place: usize,
@@ -61,7 +59,7 @@ fn vtypes(
 {
     let mut types = Seq::new(alloc);
     for one in raw {
-        let ty = vtype(alloc, pool, code, first, place, one)?;
+        let ty = vtype(pool, code, first, place, one)?;
         types.push(ty)?;
     }
     Ok(types)
@@ -71,7 +69,7 @@ fn vtypes(
 #[tactic(auto, unfolding(crate::specs::FrameReading::frame))]
 fn frame(
     alloc: Global,
-    pool: &Pool,
+    pool: &NamedPool,
     code: &Code,
     first: &[VType],
     place: usize,
@@ -89,7 +87,7 @@ fn frame(
 #[tactic(auto, using(crate::proofs::Loops::each_goes_on, crate::proofs::Loops::each_ends, crate::proofs::Loops::each_is_done))]
 pub fn frames(
     alloc: Global,
-    pool: &Pool,
+    pool: &NamedPool,
     code: &Code,
     first: &[VType],
     place: usize,

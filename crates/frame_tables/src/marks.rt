@@ -7,8 +7,7 @@ ghost use Rattle.frame_tables.specs.FrameReading as reading;
 
 use crate::names::{Code, frame_start, new_at};
 use class_input::BadClass;
-use class_names::class_type_at;
-use const_pool::Pool;
+use class_names::{NamedPool, class_type_at};
 use stack_maps::{FrameMark, Mark};
 use std::alloc::Global;
 
@@ -25,8 +24,7 @@ pub fn placed(start: usize, place: usize) -> Result<usize, BadClass>
 /// A mark of a table that begins at a place of the file, where the offset of the next frame is at least `next`; and what
 /// it is at least behind the mark.
 fn judge_mark(
-    alloc: Global,
-    pool: &Pool,
+    pool: &NamedPool,
     code: &Code,
     start: usize,
     next: u32,
@@ -44,7 +42,7 @@ fn judge_mark(
             Ok(offset + 1)
         }
         Mark::Object(index) => {
-            class_type_at(alloc, pool, place, index)?;
+            class_type_at(pool, place, index)?;
             Ok(next)
         }
         Mark::Uninit(offset) => {
@@ -57,8 +55,7 @@ fn judge_mark(
 /// The marks of a table that begins at a place of the file.
 #[tactic(auto, using(crate::proofs::Loops::marks_go_on, crate::proofs::Loops::marks_end, crate::proofs::Loops::marks_are_done))]
 pub fn judge_marks(
-    alloc: Global,
-    pool: &Pool,
+    pool: &NamedPool,
     code: &Code,
     start: usize,
     marks: &[FrameMark],
@@ -67,7 +64,7 @@ pub fn judge_marks(
 {
     let mut next = 0;
     for mark in marks {
-        next = judge_mark(alloc, pool, code, start, next, mark)?;
+        next = judge_mark(pool, code, start, next, mark)?;
     }
     Ok(())
 }

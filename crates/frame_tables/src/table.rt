@@ -15,7 +15,7 @@ use crate::marks::{judge_marks, placed};
 use crate::names::Code;
 use class_input::{BadClass, BadKind, Input};
 use class_model::{Frame, VType};
-use const_pool::Pool;
+use class_names::NamedPool;
 use lists::Seq;
 use stack_maps::{FrameMark, FrameStop, RawFrame, RawType, decode_frames, frame_marks};
 use std::alloc::Global;
@@ -104,7 +104,7 @@ fn expanded(
 #[tactic(auto, unfolding(crate::specs::FrameReading::frames, crate::specs::FrameReading::frames_in_full))]
 fn table(
     alloc: Global,
-    pool: &Pool,
+    pool: &NamedPool,
     code: &Code,
     first: &Seq<VType>,
     input: &mut Input,
@@ -115,7 +115,7 @@ fn table(
     let bytes = input.rest;
     let entries = numbered(alloc, first.as_slice())?;
     let (marks, taken) = shape(alloc, start, bytes, entries.as_slice())?;
-    judge_marks(alloc, pool, code, start, marks.as_slice())?;
+    judge_marks(pool, code, start, marks.as_slice())?;
     let raw = expanded(alloc, start, bytes, entries.as_slice())?;
     let frames = frames(alloc, pool, code, first.as_slice(), start, raw.as_slice())?;
     input.skip(taken);
@@ -131,7 +131,7 @@ fn table(
 /// offset that begins no instruction, or no `new`, and what `class_type_at` refuses.
 pub fn read_frames(
     alloc: Global,
-    pool: &Pool,
+    pool: &NamedPool,
     code: &Code,
     first: &Seq<VType>,
     input: &mut Input,

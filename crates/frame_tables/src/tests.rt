@@ -2,7 +2,7 @@ use crate::{first_types, read_frames};
 use class_file::MethodHead;
 use class_input::{BadClass, BadKind, Input};
 use class_model::{DescStop, Frame, VType, parse_desc};
-use const_pool::Pool;
+use class_names::NamedPool;
 use insn_code::read_insns;
 use lists::{Name, Seq};
 use std::alloc::Global;
@@ -44,7 +44,7 @@ fn first_frames(rt: HostRuntime) -> Result<(), DescStop> {
 
 /// The frames of a table of the code `new A`, `return`.
 fn frames(alloc: Global, table: &[u8]) -> Result<Seq<(u32, Frame)>, BadClass> {
-    let pool = Pool::read(alloc, &mut Input::new(b"\x00\x03\x01\x00\x01A\x07\x00\x01"))?;
+    let pool = NamedPool::read(alloc, &mut Input::new(b"\x00\x03\x01\x00\x01A\x07\x00\x01"))?;
     let code = read_insns(alloc, &pool, 4, &mut Input::new(&[0xbb, 0, 2, 0xb1]))?;
     read_frames(
         alloc,

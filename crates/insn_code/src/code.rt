@@ -14,7 +14,7 @@ use crate::starts::Starts;
 use crate::unlinked::Unlinked;
 use class_input::{BadClass, BadKind, Input};
 use class_model::Insn;
-use const_pool::Pool;
+use class_names::NamedPool;
 use lists::Seq;
 use std::alloc::Global;
 
@@ -34,7 +34,7 @@ fn are_bytes(text: &[u8])
 
 /// One instruction more, where bytes are left.
 #[tactic(auto, unfolding(crate::specs::CodeReading::next, crate::specs::CodeReading::sized))]
-fn next(alloc: Global, pool: &Pool, run: Run, input: &mut Input) -> Read<Run>
+fn next(alloc: Global, pool: &NamedPool, run: Run, input: &mut Input) -> Read<Run>
     requires { run.starts.size + length input.old.rest.now ≤ 65535 }
     ensures reads { Gives result input.new (reading.next pool.now run (seen input.old)) }
     ensures room { IfOk result (λ run. run.starts.size + length input.new.rest.now ≤ 65535) }
@@ -55,7 +55,7 @@ fn next(alloc: Global, pool: &Pool, run: Run, input: &mut Input) -> Read<Run>
 
 /// The instructions that so many bytes are. Each takes a byte or more.
 #[tactic(auto, using(class_input::proofs::Loops::each_goes_on, class_input::proofs::Loops::each_ends, class_input::proofs::Loops::each_is_done))]
-fn run_of(alloc: Global, pool: &Pool, len: usize, input: &mut Input) -> Read<Run>
+fn run_of(alloc: Global, pool: &NamedPool, len: usize, input: &mut Input) -> Read<Run>
     requires { length input.old.rest.now ≤ 65535 }
     ensures { Gives result input.new (each len (reading.next pool.now) reading.no_insn (seen input.old)) }
 {
@@ -71,7 +71,7 @@ fn run_of(alloc: Global, pool: &Pool, len: usize, input: &mut Input) -> Read<Run
 
 /// The instructions of code of so many bytes, before their branches are linked.
 #[tactic(auto, unfolding(crate::specs::CodeReading::placed_in))]
-fn placed_in(alloc: Global, pool: &Pool, len: usize, input: &mut Input) -> Read<Run>
+fn placed_in(alloc: Global, pool: &NamedPool, len: usize, input: &mut Input) -> Read<Run>
     requires { len ≤ 65535 }
     ensures { Gives result input.new (reading.placed_in pool.now len (seen input.old)) }
 {
@@ -90,7 +90,7 @@ fn placed_in(alloc: Global, pool: &Pool, len: usize, input: &mut Input) -> Read<
 #[tactic(auto, unfolding(crate::specs::CodeReading::insns))]
 fn linked_insns(
     alloc: Global,
-    pool: &Pool,
+    pool: &NamedPool,
     len: usize,
     input: &mut Input,
 ) -> Read<(Seq<Insn>, Starts)>
@@ -111,7 +111,7 @@ fn linked_insns(
 /// to no instruction, at its opcode. Code that ends in an instruction is `Short` at the first byte that is wanted.
 pub fn read_insns(
     alloc: Global,
-    pool: &Pool,
+    pool: &NamedPool,
     len: usize,
     input: &mut Input,
 ) -> Result<(Seq<Insn>, Starts), BadClass>

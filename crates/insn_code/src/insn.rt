@@ -13,7 +13,7 @@ use crate::shapes::plain;
 use crate::switches::{lookup_switch, table_switch};
 use crate::unlinked::Unlinked;
 use class_input::{BadClass, BadKind, Input};
-use const_pool::Pool;
+use class_names::NamedPool;
 use opcode_table::{OperandForm, operand_form};
 use std::alloc::Global;
 
@@ -30,7 +30,7 @@ fn bad_opcode(place: usize, opcode: u8) -> BadClass
 /// What stands behind an opcode, which stands at a place of the file and at `pc` of the code.
 fn operands(
     alloc: Global,
-    pool: &Pool,
+    pool: &NamedPool,
     place: usize,
     pc: usize,
     opcode: u8,
@@ -51,16 +51,16 @@ fn operands(
         OperandForm::WideJump => wide_jump(opcode, input),
         OperandForm::Table => table_switch(alloc, pc, input),
         OperandForm::Lookup => lookup_switch(alloc, pc, input),
-        OperandForm::Interface => interface_call(alloc, pool, input),
+        OperandForm::Interface => interface_call(pool, input),
         OperandForm::ArrayType => array_type(input),
-        OperandForm::Dimensions => multi_array(alloc, pool, input),
+        OperandForm::Dimensions => multi_array(pool, input),
         OperandForm::Wide => wide(input),
     }
 }
 
 /// An instruction whose opcode stands at `pc` of the code.
 #[tactic(auto, unfolding(crate::specs::InsnReading::insn))]
-pub(crate) fn insn(alloc: Global, pool: &Pool, pc: usize, input: &mut Input) -> Read<Unlinked>
+pub(crate) fn insn(alloc: Global, pool: &NamedPool, pc: usize, input: &mut Input) -> Read<Unlinked>
     ensures { Gives result input.new (reading.insn pool.now pc (seen input.old)) }
 {
     let place = input.at;

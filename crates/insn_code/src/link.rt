@@ -33,7 +33,7 @@ fn lead(place: usize, starts: &Starts, pc: u32, distance: i32) -> Read<u32>
 fn leads(alloc: Global, place: usize, starts: &Starts, pc: u32, distances: &[i32]) -> Read<Seq<u32>>
     ensures { Answers (λ targets. targets) result (fit place Target (linking.all_of (linking.lead starts.now.starts pc) distances.now)) }
 {
-    let mut targets = Seq::new(alloc);
+    let mut targets = Seq::with_capacity(alloc, distances.len())?;
     for distance in distances {
         let target = lead(place, starts, pc, *distance)?;
         targets.push(target)?;
@@ -61,7 +61,7 @@ fn row_leads(
 ) -> Read<Seq<(i32, u32)>>
     ensures { Answers (λ targets. targets) result (fit place Target (linking.all_of (linking.row_lead starts.now.starts pc) rows.now)) }
 {
-    let mut targets = Seq::new(alloc);
+    let mut targets = Seq::with_capacity(alloc, rows.len())?;
     for row in rows {
         let target = row_lead(place, starts, pc, *row)?;
         targets.push(target)?;
@@ -104,7 +104,7 @@ pub(crate) fn link(
     requires { place < 2 ^ 63 }
     ensures { Answers (λ insns. insns) result (linked place starts.now.starts placed) }
 {
-    let mut insns = Seq::new(alloc);
+    let mut insns = Seq::with_capacity(alloc, placed.len())?;
     for (pc, insn) in placed.into_vec() {
         let insn = link_insn(alloc, place + pc as usize, starts, pc, insn)?;
         insns.push(insn)?;

@@ -11,10 +11,9 @@ use crate::unlinked::Unlinked;
 use class_input::{BadClass, BadKind, Input};
 use class_model::{Insn, InvokeKind, MethodDesc, words};
 use class_names::{
-    MethodEntry, class_name_at, class_type_at, field_at, long_at, method_at, next_class_type,
-    next_method, pushed_at,
+    MethodEntry, NamedPool, class_name_at, class_type_at, field_at, long_at, method_at,
+    next_class_type, next_method, pushed_at,
 };
-use const_pool::Pool;
 use opcode_table::{OperandForm, operand_form};
 use std::alloc::Global;
 
@@ -177,7 +176,7 @@ pub(crate) fn wide(input: &mut Input) -> Read<Unlinked>
 
 /// `ldc`.
 #[tactic(auto, unfolding(crate::specs::InsnReading::pool_byte, crate::specs::InsnReading::at_byte))]
-pub(crate) fn pool_byte(alloc: Global, pool: &Pool, input: &mut Input) -> Read<Unlinked>
+pub(crate) fn pool_byte(alloc: Global, pool: &NamedPool, input: &mut Input) -> Read<Unlinked>
     ensures { Gives result input.new (reading.pool_byte pool.now (seen input.old)) }
 {
     let place = input.at;
@@ -188,8 +187,7 @@ pub(crate) fn pool_byte(alloc: Global, pool: &Pool, input: &mut Input) -> Read<U
 
 /// A call by an index of two bytes, which stands at a place.
 fn call(
-    alloc: Global,
-    pool: &Pool,
+    pool: &NamedPool,
     kind: InvokeKind,
     entry: MethodEntry,
     place: usize,
@@ -197,50 +195,35 @@ fn call(
 ) -> Read<Insn>
     ensures { Answers (λ insn. insn) result (reading.called pool.now kind entry place index) }
 {
-    let method = method_at(alloc, entry, pool, place, index)?;
+    let method = method_at(entry, pool, place, index)?;
     Ok(Insn::Invoke(kind, method))
 }
 
 /// The instruction of an opcode with an index of two bytes, which stands at a place.
 #[tactic(auto, unfolding(crate::specs::InsnReading::pool_insn))]
-fn pool_insn(alloc: Global, pool: &Pool, opcode: u8, place: usize, index: u16) -> Read<Insn>
+fn pool_insn(alloc: Global, pool: &NamedPool, opcode: u8, place: usize, index: u16) -> Read<Insn>
     ensures { Answers (λ insn. insn) result (reading.pool_insn pool.now opcode place index) }
 {
     match opcode {
         19 => pushed_at(alloc, pool, place, index),
         20 => Ok(Insn::PushLong(long_at(pool, place, index)?)),
-        178 => Ok(Insn::GetStatic(field_at(alloc, pool, place, index)?)),
-        179 => Ok(Insn::PutStatic(field_at(alloc, pool, place, index)?)),
-        180 => Ok(Insn::GetField(field_at(alloc, pool, place, index)?)),
-        181 => Ok(Insn::PutField(field_at(alloc, pool, place, index)?)),
+        178 => Ok(Insn::GetStatic(field_at(pool, place, index)?)),
+        179 => Ok(Insn::PutStatic(field_at(pool, place, index)?)),
+        180 => Ok(Insn::GetField(field_at(pool, place, index)?)),
+        181 => Ok(Insn::PutField(field_at(pool, place, index)?)),
         182 => call(
-            alloc,
             pool,
             InvokeKind::Virtual,
             MethodEntry::OfClass,
             place,
             index,
         ),
-        183 => call(
-            alloc,
-            pool,
-            InvokeKind::Special,
-            MethodEntry::Either,
-            place,
-            index,
-        ),
-        184 => call(
-            alloc,
-            pool,
-            InvokeKind::Static,
-            MethodEntry::Either,
-            place,
-            index,
-        ),
-        187 => Ok(Insn::New(class_name_at(alloc, pool, place, index)?)),
-        189 => Ok(Insn::ANewArray(class_type_at(alloc, pool, place, index)?)),
-        192 => Ok(Insn::CheckCast(class_type_at(alloc, pool, place, index)?)),
-        _ => Ok(Insn::InstanceOf(class_type_at(alloc, pool, place, index)?)),
+        183 => call(pool, InvokeKind::Special, MethodEntry::Either, place, index),
+        184 => call(pool, InvokeKind::Static, MethodEntry::Either, place, index),
+        187 => Ok(Insn::New(class_name_at(pool, place, index)?)),
+        189 => Ok(Insn::ANewArray(class_type_at(pool, place, index)?)),
+        192 => Ok(Insn::CheckCast(class_type_at(pool, place, index)?)),
+        _ => Ok(Insn::InstanceOf(class_type_at(pool, place, index)?)),
     }
 }
 
@@ -248,7 +231,7 @@ fn pool_insn(alloc: Global, pool: &Pool, opcode: u8, place: usize, index: u16) -
 #[tactic(auto, unfolding(crate::specs::InsnReading::pool_index, class_names::specs::Steps::at_index))]
 pub(crate) fn pool_index(
     alloc: Global,
-    pool: &Pool,
+    pool: &NamedPool,
     opcode: u8,
     input: &mut Input,
 ) -> Read<Unlinked>
@@ -262,10 +245,10 @@ pub(crate) fn pool_index(
 
 /// `invokeinterface`.
 #[tactic(auto, unfolding(crate::specs::InsnReading::interface_call))]
-pub(crate) fn interface_call(alloc: Global, pool: &Pool, input: &mut Input) -> Read<Unlinked>
+pub(crate) fn interface_call(pool: &NamedPool, input: &mut Input) -> Read<Unlinked>
     ensures { Gives result input.new (reading.interface_call pool.now (seen input.old)) }
 {
-    let method = next_method(alloc, MethodEntry::OfInterface, pool, input)?;
+    let method = next_method(MethodEntry::OfInterface, pool, input)?;
     argument_words(&method.desc, input)?;
     zero(input)?;
     Ok(Unlinked::Whole(Insn::Invoke(InvokeKind::Interface, method)))
@@ -273,10 +256,10 @@ pub(crate) fn interface_call(alloc: Global, pool: &Pool, input: &mut Input) -> R
 
 /// `multianewarray`.
 #[tactic(auto, unfolding(crate::specs::InsnReading::multi_array))]
-pub(crate) fn multi_array(alloc: Global, pool: &Pool, input: &mut Input) -> Read<Unlinked>
+pub(crate) fn multi_array(pool: &NamedPool, input: &mut Input) -> Read<Unlinked>
     ensures { Gives result input.new (reading.multi_array pool.now (seen input.old)) }
 {
-    let ty = next_class_type(alloc, pool, input)?;
+    let ty = next_class_type(pool, input)?;
     let place = input.at;
     let dimensions = input.u8()?;
     demand(place, dimensions > 0)?;

@@ -1,14 +1,14 @@
 use crate::read_insns;
 use class_input::{BadClass, BadKind, Input};
 use class_model::{Cond, Insn};
-use const_pool::Pool;
+use class_names::NamedPool;
 use std::alloc::Global;
 use std::process::Abort;
 use std::test::Fail;
 
 /// The number of instructions, or the first bad place.
 fn read(alloc: Global, code: &[u8]) -> Result<usize, BadClass> {
-    let pool = Pool::read(alloc, &mut Input::new(&[0, 1]))?;
+    let pool = NamedPool::read(alloc, &mut Input::new(&[0, 1]))?;
     let mut input = Input::new(code);
     if code.len() > 65535 {
         return Err(BadClass::Memory);
@@ -28,7 +28,7 @@ fn refuses(rt: &impl Abort, alloc: Global, code: &[u8], place: usize, kind: BadK
 #[test]
 fn branches(rt: HostRuntime) -> Result<(), BadClass> {
     let alloc = rt.alloc();
-    let pool = Pool::read(alloc, &mut Input::new(&[0, 1]))?;
+    let pool = NamedPool::read(alloc, &mut Input::new(&[0, 1]))?;
     // iconst_0, ifne to itself, goto_w to iconst_0.
     let code = [0x03, 0x9a, 0x00, 0x00, 0xc8, 0xff, 0xff, 0xff, 0xfc];
     let (insns, starts) = read_insns(alloc, &pool, 9, &mut Input::new(&code))?;

@@ -13,12 +13,13 @@ use crate::texts::{is_text, to_units};
 use std::alloc::{AllocError, Global};
 use std::hash::{Hash, Hasher};
 use std::marker::Model;
+use std::rc::Rc;
 
 /// A name or another text of a class file, as its UTF-16 units, so that a surrogate without its
-/// partner has a place (JVMS 4.4.7).
+/// partner has a place (JVMS 4.4.7). Copies share the units.
 #[derive(Debug, Drop)]
 pub struct Name {
-    units: Vec<u16>,
+    units: Rc<Vec<u16>>,
 }
 
 impl Model for Name {
@@ -26,65 +27,64 @@ impl Model for Name {
 
     ghost Value = { List ℕ };
 
-    ghost view = { λ n. n.units.items };
+    ghost view = { λ n. n.units.value.items };
 }
 
 impl Name {
-    /// The name that these units spell. Takes no memory.
-    pub fn from_vec(units: Vec<u16>) -> Name
-        ensures { result ≡ units.items }
+    /// The name that these units spell.
+    pub fn from_vec(alloc: Global, units: Vec<u16>) -> Result<Name, AllocError>
+        ensures { IfOk result (λ n. n ≡ units.items) }
     {
-        Name { units }
+        Ok(Name {
+            units: Rc::new(alloc, units)?,
+        })
     }
 
     /// A copy of these units.
     pub fn from_units(alloc: Global, units: &[u16]) -> Result<Name, AllocError>
         ensures { IfOk result (λ n. n ≡ units.now) }
     {
-        Ok(Name {
-            units: Vec::from_slice(alloc, units)?,
-        })
+        Name::from_vec(alloc, Vec::from_slice(alloc, units)?)
     }
 
     /// The units of a text.
     pub fn from_str(alloc: Global, text: &str) -> Result<Name, AllocError>
         ensures { IfOk result (λ n. n ≡ units_of text.now) }
     {
-        Ok(Name {
-            units: to_units(alloc, text)?,
-        })
+        Name::from_vec(alloc, to_units(alloc, text)?)
     }
 
     pub fn as_units(&self) -> &[u16]
         ensures { result.now ≡ self.now }
     {
-        self.units.as_slice()
+        self.units.as_ref().as_slice()
     }
 
     /// The number of units.
     pub fn len(&self) -> usize
         ensures { result ≡ length self.now }
     {
-        self.units.len()
+        self.as_units().len()
     }
 
     pub fn is_empty(&self) -> bool
         ensures { IsTrue result ↔ (self.now ≡ []) }
     {
-        self.units.is_empty()
+        self.as_units().is_empty()
     }
 
     /// Whether this is the name that a text spells. Takes no memory.
     pub fn is(&self, text: &str) -> bool
         ensures { IsTrue result ↔ (self.now ≡ units_of text.now) }
     {
-        is_text(self.units.as_slice(), text)
+        is_text(self.as_units(), text)
     }
 }
 
 impl Clone for Name {
     ghost is_clone = { λ s t. t ≡ s };
 
+    /// Takes no memory.
     fn clone(&self) -> Result<Name, AllocError> {
         Ok(Name {
             units: self.units.clone()?,
@@ -98,7 +98,7 @@ impl PartialEq for Name {
     ghost laws = { partial_equiv_from_equiv nat_list_eq_equiv };
 
     fn eq(&self, other: &Name) -> bool {
-        self.units == other.units
+        self.as_units() == other.as_units()
     }
 }
 
@@ -122,6 +122,6 @@ impl Plain for Name {
 
 impl Same for Name {
     fn same(&self, other: &Name) -> bool {
-        self.units == other.units
+        self.as_units() == other.as_units()
     }
 }

@@ -6,7 +6,8 @@ use Rattle.std.proofs.lemmas.List.{append-nil, length-append}
 use Rattle.std.proofs.lemmas.List.Concat.{flat_map-append}
 use Rattle.std.proofs.lemmas.List.Elements.{All-push, All-nil, All-cons, All-head, All-tail}
 use Rattle.modified_utf8.specs.Text.{unit_bytes, text_bytes, AreUnits, IsText, IsWrongAt, BeginsWithNone}
-use Rattle.modified_utf8.specs.TextReading.{first_unit, behind, unit_then, read_on}
+use Rattle.std.specs.List.{list_all}
+use Rattle.modified_utf8.specs.TextReading.{is_plain, first_unit, behind, unit_then, read_on, read_text}
 use Rattle.modified_utf8.proofs.Units.{bytes_one, bytes_two, bytes_three, again_one, again_two, again_three, unit_is, none_read}
 
 -- ---- a loop over the units
@@ -149,3 +150,23 @@ pub text_not_wrong : (bytes us : List ℕ) (place : ℕ) → IsText bytes us →
 text_not_wrong bytes us place a b =
     let p : all_read us ≡ wrong_read (0 + place) = sym (text_read 0 bytes us a) ∙ wrong_is_read 0 bytes place b in
     absurd cc
+
+-- ---- texts whose bytes are their units
+
+pub plain_text : (bytes : List ℕ) → list_all is_plain bytes ≡ true → IsText bytes bytes
+plain_text [] h = record { in_range = All-nil _; spelled = refl }
+plain_text (b ∷ bs) h =
+    let p = and_parts (is_plain b) (list_all is_plain bs) h in
+    let q = and_parts (ltb 0 b) (ltb b 128) p.0 in
+    let low = ltb-true b 128 q.1 in
+    let more = plain_text bs p.1 in
+    record {
+      in_range = All-cons (λ u. u < 2 ^ 16) b bs (omega (arith, low)) more.in_range;
+      spelled = ap (λ (z : List ℕ). b ∷ z) more.spelled ∙ ap (λ (z : List ℕ). z ++ text_bytes bs) (sym (bytes_one b (ltb-true 0 b q.0) low));
+    }
+
+pub plain_once : (bytes us : List ℕ) → list_all is_plain bytes ≡ true → IsText bytes us → bytes ≡ us
+plain_once bytes us h is = text_once bytes bytes us (plain_text bytes h) is
+
+pub plain_read : (bytes : List ℕ) → list_all is_plain bytes ≡ true → read_text 0 bytes ≡ all_read bytes
+plain_read bytes h = text_read 0 bytes bytes (plain_text bytes h)

@@ -14,6 +14,10 @@ value_two b c = (b - 192) * 64 + (c - 128)
 abbrev pub value_three : ℕ → ℕ → ℕ → ℕ
 value_three b c d = (b - 224) * 4096 + (c - 128) * 64 + (d - 128)
 
+-- a byte that is a unit by itself: 1 to 127
+abbrev pub is_plain : ℕ → Bool
+is_plain b = nat_lt 0 b && nat_lt b 128
+
 -- two bytes spell 0, or a unit that has no shorter form
 abbrev pub two : ℕ → List ℕ → Option (ℕ × ℕ)
 two b [] = None

@@ -1,6 +1,7 @@
 //! Texts and their UTF-16 units.
 
 ghost use Rattle.std.specs.Prelude.{◌≡◌, ◌<◌, ◌^◌, ◌++◌, List, ℕ, IfOk, IfErr, OnOk, MatchOption};
+ghost use Rattle.std.specs.List.{list_all};
 ghost use Rattle.modified_utf8.specs.Text.{unit_bytes, IsText, IsWrongAt, BeginsWithNone};
 ghost use Rattle.modified_utf8.specs.TextReading as reading;
 ghost use Rattle.modified_utf8.specs.declared.text.TextStop.TheVariants.{Memory};
@@ -71,16 +72,39 @@ fn next_unit(bytes: &[u8]) -> Option<(u16, &[u8])>
     Some((unit, behind))
 }
 
-/// The units of a text in modified UTF-8. `Bad` holds the place of the first byte of the first character that is
-/// wrong: a byte that begins none, an overlong form, or one that is cut short.
+fn is_plain_byte(byte: u8) -> bool
+    ensures { result ≡ reading.is_plain byte }
+{
+    0 < byte && byte < 128
+}
+
+/// Whether each byte is a unit by itself, as nearly all texts of class files are.
+fn is_plain(bytes: &[u8]) -> bool
+    ensures { result ≡ list_all reading.is_plain bytes.now }
+{
+    bytes.iter().all(|byte| is_plain_byte(*byte))
+}
+
+/// The units of such a text.
+fn plain_units(alloc: Global, bytes: &[u8]) -> Result<Units, AllocError>
+    ensures { IfOk result (λ units. units ≡ bytes.now) }
+{
+    let mut units = Vec::with_capacity(alloc, bytes.len())?;
+    for byte in bytes {
+        units.push(u16::from(*byte))?;
+    }
+    Ok(Seq::from_vec(units))
+}
+
+/// The units of any text, read one by one.
 #[tactic(auto, using(crate::proofs::Texts::read_none, crate::proofs::Texts::read_more, crate::proofs::Texts::read_all, crate::proofs::Texts::read_wrong, crate::proofs::Texts::read_within, crate::proofs::Texts::wrong_is_read, crate::proofs::Texts::text_read))]
-pub fn text_units(alloc: Global, bytes: &[u8]) -> Result<Units, TextStop>
+fn each_unit(alloc: Global, bytes: &[u8]) -> Result<Units, TextStop>
     ensures text { IfOk result (λ units. IsText bytes.now units) }
     ensures wrong { IfErr result (λ stop. reading.IsStopOf bytes.now stop) }
     ensures only { (units : List ℕ) → IsText bytes.now units → reading.IsOnly result units }
     ensures read { reading.Gives result (reading.read_text 0 bytes.now) }
 {
-    let mut units = Vec::new(alloc);
+    let mut units = Vec::with_capacity(alloc, bytes.len())?;
     let mut rest = bytes;
     while !rest.is_empty() {
         let Some((unit, behind)) = next_unit(rest) else {
@@ -92,9 +116,23 @@ pub fn text_units(alloc: Global, bytes: &[u8]) -> Result<Units, TextStop>
     Ok(Seq::from_vec(units))
 }
 
-/// The place of the first byte of the first character that is wrong, or `None` for a text. Takes no memory.
+/// The units of a text in modified UTF-8. `Bad` holds the place of the first byte of the first character that is
+/// wrong: a byte that begins none, an overlong form, or one that is cut short.
+#[tactic(auto, using(crate::proofs::Texts::plain_text, crate::proofs::Texts::plain_once, crate::proofs::Texts::plain_read))]
+pub fn text_units(alloc: Global, bytes: &[u8]) -> Result<Units, TextStop>
+    ensures text { IfOk result (λ units. IsText bytes.now units) }
+    ensures wrong { IfErr result (λ stop. reading.IsStopOf bytes.now stop) }
+    ensures only { (units : List ℕ) → IsText bytes.now units → reading.IsOnly result units }
+    ensures read { reading.Gives result (reading.read_text 0 bytes.now) }
+{
+    if is_plain(bytes) {
+        return Ok(plain_units(alloc, bytes)?);
+    }
+    each_unit(alloc, bytes)
+}
+
 #[tactic(auto, using(crate::proofs::Texts::read_none, crate::proofs::Texts::read_all, crate::proofs::Texts::read_wrong, crate::proofs::Texts::read_within))]
-pub fn wrong_place(bytes: &[u8]) -> Option<usize>
+fn first_wrong(bytes: &[u8]) -> Option<usize>
     ensures { MatchOption result ((units : List ℕ) × IsText bytes.now units) (λ place. IsWrongAt bytes.now place) }
 {
     let mut rest = bytes;
@@ -105,6 +143,16 @@ pub fn wrong_place(bytes: &[u8]) -> Option<usize>
         rest = behind;
     }
     None
+}
+
+/// The place of the first byte of the first character that is wrong, or `None` for a text. Takes no memory.
+pub fn wrong_place(bytes: &[u8]) -> Option<usize>
+    ensures { MatchOption result ((units : List ℕ) × IsText bytes.now units) (λ place. IsWrongAt bytes.now place) }
+{
+    if is_plain(bytes) {
+        return None;
+    }
+    first_wrong(bytes)
 }
 
 /// Puts the bytes of a unit behind others.

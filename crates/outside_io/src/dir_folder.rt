@@ -208,15 +208,15 @@ fn list_below<R: Files>(rt: &R, alloc: Global, dir: &str) -> Result<Seq<Path>, I
 fn read_whole<R: Files>(rt: &R, alloc: Global, path: &str) -> Result<Bytes, IoStop>
     ensures { Reads None path.now result }
 {
-    match stands_at(rt, path) {
-        Ok(Some(found)) if found.is_file() => {}
+    let len = match stands_at(rt, path) {
+        Ok(Some(found)) if found.is_file() => found.len(),
         Ok(_) => return Err(IoStop::Absent),
         Err(_) => return Err(IoStop::Failed),
-    }
+    };
     let Ok(file) = fs::open(rt, path) else {
         return Err(IoStop::Failed);
     };
-    let mut bytes = Vec::new(alloc);
+    let mut bytes = Vec::with_capacity(alloc, len.min(MOST_BYTES as u64) as usize)?;
     match file.take(16_777_217).read_to_end(&mut bytes) {
         Ok(_) => {}
         Err(error) if error.kind() == ErrorKind::OutOfMemory => return Err(IoStop::Memory),

@@ -1,10 +1,12 @@
-use Rattle.std.proofs.Common.{◌++◌, ◌∷◌, []}
-use Rattle.modified_utf8.proofs.Texts.{read_more}
+use Rattle.std.proofs.Common.{◌≡◌, true}
+use Rattle.std.specs.List.{list_all}
+use Rattle.modified_utf8.specs.TextReading.{is_plain}
+use Rattle.modified_utf8.proofs.Texts.{plain_text}
 use Rattle.modified_utf8.proofs.text.wrong_place.Goals as goal
 
-pub loop-rest-preserved : goal.loop-rest-preserved
-loop-rest-preserved c =
-    let so_far = c.loop-rest.invariant in
-    let u = c.in-Some.field-0-0 in
-    let next = rw c.in-Some.behind-is at c.in-Some.ensures in
-    (so_far.0 ++ u ∷ [], read_more c.args.bytes.now so_far.0 c.loop-rest.rest.now u c.in-Some.behind.now so_far.1 next.0 next.1)
+pub returns-then-is_plain : goal.returns-then-is_plain
+returns-then-is_plain c =
+    let answered = c.is_plain.ensures in
+    let yes = c.if-is_plain.true in
+    let plain : list_all is_plain c.args.bytes.now ≡ true = cc in
+    (c.args.bytes.now, plain_text c.args.bytes.now plain)
