@@ -12,7 +12,7 @@ use Rattle.insn_code.proofs.link.leads.Goals as goal
 pub loop-distance-init : goal.loop-distance-init
 loop-distance-init c =
     let whole = all_of (lead c.args.starts.now.starts c.args.pc) c.args.distances.now in
-    ap (λ (z : List ℕ). behind z whole) c.new-targets.ensures ∙ behind_nil whole
+    ap (λ (z : List ℕ). behind z whole) c.in_ok-targets.ensures ∙ behind_nil whole
 
 pub loop-distance-preserved : goal.loop-distance-preserved
 loop-distance-preserved c =
@@ -27,7 +27,7 @@ loop-distance-preserved c =
 
 pub returns-in_err-target : goal.returns-in_err-target
 returns-in_err-target c =
-    let p = err_from_is_err_and c.from_residual.result c.from_residual.ensures.1 in
+    let p = err_from_is_err_and c.from_residual-in_err-target.result c.from_residual-in_err-target.ensures.1 in
     let f = lead c.args.starts.now.starts c.args.pc in
     let xs = c.args.distances.now in
     let x = get_or xs c.loop-distance.distance-index (pos 0) in

@@ -13,7 +13,7 @@ loop-pc-init c =
     let starts = c.args.starts.now.starts in
     let items : into_iter_items c.into_iter-pc-iterator.result ≡ c.args.placed = search rules in
     record {
-      so_far = ap (λ (z : List Insn). in_front z (linked c.args.place starts (into_iter_items c.into_iter-pc-iterator.result))) c.new-insns.ensures ∙ front_nil (linked c.args.place starts (into_iter_items c.into_iter-pc-iterator.result)) ∙ ap (linked c.args.place starts) items;
+      so_far = ap (λ (z : List Insn). in_front z (linked c.args.place starts (into_iter_items c.into_iter-pc-iterator.result))) c.in_ok-insns.ensures ∙ front_nil (linked c.args.place starts (into_iter_items c.into_iter-pc-iterator.result)) ∙ ap (linked c.args.place starts) items;
       left = search rules;
     }
 
@@ -32,7 +32,7 @@ loop-pc-preserved c =
 
 pub returns-in_err-insn : goal.returns-in_err-insn
 returns-in_err-insn c =
-    let p = err_from_is_err_and c.from_residual.result c.from_residual.ensures.1 in
+    let p = err_from_is_err_and c.from_residual-in_err-insn.result c.from_residual-in_err-insn.ensures.1 in
     let starts = c.args.starts.now.starts in
     let total = linked c.args.place starts c.args.placed in
     let x : Placed = (c.in-Some.pc, c.in-Some.insn) in

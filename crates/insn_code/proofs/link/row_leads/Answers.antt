@@ -9,7 +9,7 @@ use Rattle.insn_code.proofs.link.row_leads.Goals as goal
 pub loop-row-init : goal.loop-row-init
 loop-row-init c =
     let whole = all_of (row_lead c.args.starts.now.starts c.args.pc) c.args.rows.now in
-    ap (λ (z : List (ℤ × ℕ)). behind z whole) c.new-targets.ensures ∙ behind_nil whole
+    ap (λ (z : List (ℤ × ℕ)). behind z whole) c.in_ok-targets.ensures ∙ behind_nil whole
 
 pub loop-row-preserved : goal.loop-row-preserved
 loop-row-preserved c =
@@ -21,7 +21,7 @@ loop-row-preserved c =
 
 pub returns-in_err-target : goal.returns-in_err-target
 returns-in_err-target c =
-    let p = err_from_is_err_and c.from_residual.result c.from_residual.ensures.1 in
+    let p = err_from_is_err_and c.from_residual-in_err-target.result c.from_residual-in_err-target.ensures.1 in
     let f = row_lead c.args.starts.now.starts c.args.pc in
     let xs = c.args.rows.now in
     rw (p.1, p.2) (ends f xs c.loop-row.row-index _ c.args.place Target c.in_err-target.field-0.0 c.loop-row.targets (all_of f xs) c.loop-row-test.true c.in_err-target.ensures c.loop-row.invariant)
