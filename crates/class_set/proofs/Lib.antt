@@ -1,0 +1,11 @@
+pub mod Assigned
+pub mod Upwards
+pub mod Kept
+pub mod Judged
+pub mod Levelled
+pub mod Told
+pub mod Firsts
+pub mod FirstFaults
+pub mod Thrown
+pub mod CoreParts
+pub mod Newly

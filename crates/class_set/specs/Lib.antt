@@ -1,0 +1,11 @@
+pub mod FinalSuper
+pub mod Core
+pub mod References
+pub mod Calls
+pub mod Open
+pub mod Faults
+pub mod Closed
+pub mod Answer
+pub mod Assignable
+pub mod Walk
+pub mod Upwards

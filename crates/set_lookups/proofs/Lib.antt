@@ -1,0 +1,13 @@
+pub mod Lists
+pub mod Settled
+pub mod Subtypes
+pub mod SameTypes
+pub mod Places
+pub mod Index
+pub mod Levels
+pub mod FieldSteps
+pub mod Steps
+pub mod Pieces
+pub mod Names
+pub mod Acyclic
+pub mod Told

@@ -1,0 +1,14 @@
+pub mod First
+pub mod Flags
+pub mod Above
+pub mod Same
+pub mod Lookups
+pub mod Counts
+pub mod Needed
+pub mod Cycle
+pub mod Rows
+pub mod Wanted
+pub mod Level
+pub mod Answer
+pub mod Links
+pub mod Ranking
