@@ -1,0 +1,15 @@
+pub mod Method
+pub mod State
+pub mod Operands
+pub mod Locals
+pub mod Numbers
+pub mod Blocks
+pub mod Jumps
+pub mod Fields
+pub mod Calls
+pub mod Arrays
+pub mod Objects
+pub mod Returns
+pub mod Rows
+pub mod Halts
+pub mod Families

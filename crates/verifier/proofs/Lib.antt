@@ -1,0 +1,9 @@
+pub mod Words
+pub mod Judged
+pub mod Typings
+pub mod Apart
+pub mod Declared
+pub mod Exactly
+pub mod Kept
+pub mod Whole
+pub mod Ordered

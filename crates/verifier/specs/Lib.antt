@@ -1,0 +1,10 @@
+pub mod Frames
+pub mod First
+pub mod Check
+pub mod Verifies
+pub mod Set
+pub mod Place
+pub mod Typed
+pub mod Exact
+pub mod WholeSet
+pub mod Stopped
