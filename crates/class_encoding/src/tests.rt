@@ -9,8 +9,8 @@ use class_input::{BadClass, BadKind, Input};
 use class_model::{
     BaseType, ClassDef, CodeDef, Constant, FieldDef, InnerRow, JType, MethodDef, MethodDesc,
 };
+use class_names::NamedPool;
 use class_shape::is_shaped;
-use const_pool::Pool;
 use lists::{Name, Seq};
 use std::alloc::{AllocError, Global};
 use std::test::Fail;
@@ -28,7 +28,7 @@ impl CodeReader for NoCode {
     fn read_code(
         &self,
         _alloc: Global,
-        _pool: &Pool,
+        _pool: &NamedPool,
         _class: &Name,
         _head: &MethodHead,
         input: &mut Input,

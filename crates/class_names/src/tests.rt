@@ -1,6 +1,8 @@
 use super::*;
 use class_input::{BadClass, BadKind, Input};
 use class_model::{Constant, Insn};
+use std::alloc::Global;
+use std::process::Abort;
 use std::test::Fail;
 
 const POOL: [u8; 97] = [
@@ -31,56 +33,76 @@ fn index(k: u8) -> [u8; 2] {
     [0, k]
 }
 
+fn pool(alloc: Global) -> Result<NamedPool, BadClass> {
+    NamedPool::read(alloc, &mut Input::new(&POOL))
+}
+
+fn names_are_read(rt: &impl Abort, pool: &NamedPool) -> Result<(), Fail> {
+    assert!(rt; next_name(pool, &mut Input::new(&index(7)))?.is("x"));
+    assert!(rt; next_optional_name(pool, &mut Input::new(&index(0)))?.is_none());
+    assert!(rt; next_bytes(pool, &mut Input::new(&index(3)))?.as_slice() == b"[I".as_slice());
+    assert!(rt; next_class_name(pool, &mut Input::new(&index(18)))?.is(";"));
+    let outer = next_optional_class_name(pool, &mut Input::new(&index(2)))?;
+    assert!(rt; matches!(&outer, Some(name) if name.is("a/B")));
+    Ok(())
+}
+
+fn types_are_read(rt: &impl Abort, pool: &NamedPool) -> Result<(), Fail> {
+    let class = next_class_type(pool, &mut Input::new(&index(4)))?;
+    assert_eq!(rt; class.depth, 1);
+    let field = next_field_type(pool, &mut Input::new(&index(5)))?;
+    assert_eq!(rt; field.depth, 0);
+    let desc = next_method_desc(pool, &mut Input::new(&index(6)))?;
+    assert!(rt; desc.params.is_empty() && desc.result.is_none());
+    Ok(())
+}
+
 /// Each reader of a next index, once.
 #[test]
 fn next_ones(rt: HostRuntime) -> Result<(), Fail> {
     let alloc = rt.alloc();
-    let pool = NamedPool::read(alloc, &mut Input::new(&POOL))?;
-    assert!(rt; next_name(&pool, &mut Input::new(&index(7)))?.is("x"));
-    assert!(rt; next_optional_name(&pool, &mut Input::new(&index(0)))?.is_none());
-    assert!(rt; next_bytes(&pool, &mut Input::new(&index(3)))?.as_slice() == b"[I".as_slice());
-    assert!(rt; next_class_name(&pool, &mut Input::new(&index(18)))?.is(";"));
-    let outer = next_optional_class_name(&pool, &mut Input::new(&index(2)))?;
-    assert!(rt; matches!(&outer, Some(name) if name.is("a/B")));
-    assert_eq!(rt;
-        next_class_type(&pool, &mut Input::new(&index(4)))?.depth,
-        1
-    );
-    assert_eq!(rt;
-        next_field_type(&pool, &mut Input::new(&index(5)))?.depth,
-        0
-    );
-    let desc = next_method_desc(&pool, &mut Input::new(&index(6)))?;
-    assert!(rt; desc.params.is_empty() && desc.result.is_none());
+    let pool = pool(alloc)?;
+    names_are_read(&rt, &pool)?;
+    types_are_read(&rt, &pool)?;
     let constant = next_constant(alloc, &pool, &mut Input::new(&index(14)))?;
     assert!(rt; matches!(&constant, Constant::Long(-3)));
     Ok(())
 }
 
-#[test]
-fn members(rt: HostRuntime) -> Result<(), Fail> {
-    let alloc = rt.alloc();
-    let pool = NamedPool::read(alloc, &mut Input::new(&POOL))?;
-    let field = next_field(&pool, &mut Input::new(&index(10)))?;
+fn a_field_is_read(rt: &impl Abort, pool: &NamedPool) -> Result<(), Fail> {
+    let field = next_field(pool, &mut Input::new(&index(10)))?;
     assert!(rt; field.class.is("a/B") && field.name.is("x") && field.ty.depth == 0);
-    let kind = MethodEntry::OfClass;
-    let method = next_method(kind, &pool, &mut Input::new(&index(11)))?;
+    Ok(())
+}
+
+fn methods_are_read(rt: &impl Abort, pool: &NamedPool) -> Result<(), Fail> {
+    let method = next_method(MethodEntry::OfClass, pool, &mut Input::new(&index(11)))?;
     assert!(rt; method.class.depth == 1 && method.name.is("x") && !method.in_interface);
-    let method = method_at(MethodEntry::Either, &pool, 0, 12)?;
+    let method = method_at(MethodEntry::Either, pool, 0, 12)?;
     assert!(rt; method.class.depth == 0 && method.in_interface);
     Ok(())
 }
 
 #[test]
-fn constants(rt: HostRuntime) -> Result<(), Fail> {
-    let alloc = rt.alloc();
-    let pool = NamedPool::read(alloc, &mut Input::new(&POOL))?;
-    assert!(rt; matches!(&pushed_at(alloc, &pool, 0, 13)?, Insn::PushInt(-2)));
-    let text = pushed_at(alloc, &pool, 0, 16)?;
+fn members(rt: HostRuntime) -> Result<(), Fail> {
+    let pool = pool(rt.alloc())?;
+    a_field_is_read(&rt, &pool)?;
+    methods_are_read(&rt, &pool)
+}
+
+fn constants_are_read(rt: &impl Abort, alloc: Global, pool: &NamedPool) -> Result<(), Fail> {
+    assert!(rt; matches!(&pushed_at(alloc, pool, 0, 13)?, Insn::PushInt(-2)));
+    let text = pushed_at(alloc, pool, 0, 16)?;
     assert!(rt; matches!(&text, Insn::PushString(text) if text.as_slice() == [120].as_slice()));
-    assert_eq!(rt; long_at(&pool, 0, 14)?, -3);
-    assert!(rt; string_at(alloc, &pool, 0, 16)?.as_slice() == [120].as_slice());
+    assert_eq!(rt; long_at(pool, 0, 14)?, -3);
+    assert!(rt; string_at(alloc, pool, 0, 16)?.as_slice() == [120].as_slice());
     Ok(())
+}
+
+#[test]
+fn constants(rt: HostRuntime) -> Result<(), Fail> {
+    let pool = pool(rt.alloc())?;
+    constants_are_read(&rt, rt.alloc(), &pool)
 }
 
 fn is_bad<T: Drop>(answer: Result<T, BadClass>, kind: BadKind) -> bool {
@@ -91,7 +113,7 @@ fn is_bad<T: Drop>(answer: Result<T, BadClass>, kind: BadKind) -> bool {
 #[test]
 fn refusals(rt: HostRuntime) -> Result<(), Fail> {
     let alloc = rt.alloc();
-    let pool = NamedPool::read(alloc, &mut Input::new(&POOL))?;
+    let pool = pool(alloc)?;
     assert!(rt; is_bad(text_at(alloc, &pool, 9, 0), BadKind::PoolIndex(0)));
     assert!(rt; is_bad(long_at(&pool, 9, 15), BadKind::PoolIndex(15)));
     assert!(rt; is_bad(class_name_at(&pool, 9, 22), BadKind::PoolIndex(22)));
