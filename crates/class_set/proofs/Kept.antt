@@ -10,7 +10,7 @@ use Rattle.class_model.specs.declared.class.ClassDef.{ClassDef}
 use Rattle.indexmap.specs.IndexSet.{insert_key}
 use Rattle.set_lookups.specs.Above.{same_name, at_class}
 use Rattle.set_lookups.specs.Flags.{is_final, is_inherited}
-use Rattle.set_lookups.proofs.SameTypes.{one_test, name_true, name_self, and_first, and_second}
+use Rattle.set_lookups.specs.SameTypes.{one_test, name_true, name_self, and_first, and_second}
 use Rattle.class_set.specs.FinalSuper.{is_kept, methods_at}
 use Rattle.class_set.specs.Upwards.{is_kept_named, methods_of, HoldsFinals}
 

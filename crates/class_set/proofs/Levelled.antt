@@ -56,40 +56,10 @@ unfolding levels
 none_up test zero set = refl
 none_up test (suc steps) set = none_up test steps set
 
--- one interface
-one_here : (test : MethodDef → Bool) (set : List ClassDef) (number : ℕ) → any_at test set (number ∷ []) ≡ list_any test (methods_of set number)
-one_here test set number = one_more test set number [] ∙ or_none (list_any test (methods_of set number))
-
-pub found_first : (test : MethodDef → Bool) (steps : ℕ) (set : List ClassDef) (number : ℕ) → list_any test (methods_of set number) ≡ true → true ≡ any_up test steps set (number ∷ [])
-unfolding levels
-found_first test zero set number t = sym (one_here test set number ∙ t)
-found_first test (suc steps) set number t =
-    sym (any_at-append test set (number ∷ []) (levels steps set (flat_map (interfaces_at set) (number ∷ []))) ∙ ap (λ b. b || any_up test steps set (flat_map (interfaces_at set) (number ∷ []))) (one_here test set number ∙ t))
-
-pub none_further : (test : MethodDef → Bool) (steps : ℕ) (set : List ClassDef) (number : ℕ) → steps ≡ 0 → list_any test (methods_of set number) ≡ false → false ≡ any_up test steps set (number ∷ [])
-unfolding levels
-none_further test steps set number e none = sym (ap (λ n. any_up test n set (number ∷ [])) e ∙ one_here test set number ∙ none)
-
-pub further_up : (test : MethodDef → Bool) (steps below : ℕ) (set : List ClassDef) (number : ℕ) (numbers : List ℕ) → steps ≡ suc below → numbers ≡ interfaces_at set number → list_any test (methods_of set number) ≡ false → any_up test below set numbers ≡ any_up test steps set (number ∷ [])
-unfolding levels
-further_up test steps below set number numbers e same none =
-    ap (any_up test below set) (same ∙ sym (append_none (interfaces_at set number)))
-    ∙ ap (λ b. b || any_up test below set (flat_map (interfaces_at set) (number ∷ []))) (sym (one_here test set number ∙ none))
-    ∙ sym (any_at-append test set (number ∷ []) (levels below set (flat_map (interfaces_at set) (number ∷ []))))
-    ∙ ap (λ n. any_up test n set (number ∷ [])) (sym e)
-
--- some interfaces in turn
-one_more_up : (test : MethodDef → Bool) (steps : ℕ) (set : List ClassDef) (xs : List ℕ) (i : ℕ) → i < length xs → any_up test steps set (drop i xs) ≡ (any_up test steps set (get_or xs i 0 ∷ []) || any_up test steps set (drop (i + 1) xs))
-one_more_up test steps set xs i lt = at_drop_more (any_up test steps set) xs i 0 lt ∙ both_up test steps set (get_or xs i 0 ∷ []) (drop (i + 1) xs)
-
-pub up_found : (test : MethodDef → Bool) (steps : ℕ) (set : List ClassDef) (xs : List ℕ) (i : ℕ) → i < length xs → any_up test steps set (get_or xs i 0 ∷ []) ≡ true → any_up test steps set (drop i xs) ≡ true
-up_found test steps set xs i lt t = one_more_up test steps set xs i lt ∙ ap (λ b. b || any_up test steps set (drop (i + 1) xs)) t
-
-pub up_passed : (test : MethodDef → Bool) (steps : ℕ) (set : List ClassDef) (xs : List ℕ) (i : ℕ) → i < length xs → any_up test steps set (get_or xs i 0 ∷ []) ≡ false → any_up test steps set (drop i xs) ≡ any_up test steps set (drop (i + 1) xs)
-up_passed test steps set xs i lt t = one_more_up test steps set xs i lt ∙ ap (λ b. b || any_up test steps set (drop (i + 1) xs)) t
-
-pub up_over : (test : MethodDef → Bool) (steps : ℕ) (set : List ClassDef) (xs : List ℕ) (i : ℕ) → length xs ≤ i → any_up test steps set (drop i xs) ≡ false
-up_over test steps set xs i le = at_drop_all (any_up test steps set) xs i le ∙ none_up test steps set
+-- classes that have a method of the kind
+pub any_of_methods : (test : MethodDef → Bool) (set : List ClassDef) (numbers : List ℕ) → list_any (λ number. list_any test (methods_of set number)) numbers ≡ list_any test (methods_at set numbers)
+any_of_methods test set [] = refl
+any_of_methods test set (number ∷ numbers) = ap (λ b. list_any test (methods_of set number) || b) (any_of_methods test set numbers) ∙ sym (one_more test set number numbers)
 
 -- classes and what is above them
 abbrev pub all_up : List ClassDef → List ℕ → List ℕ

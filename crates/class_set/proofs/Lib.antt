@@ -1,3 +1,4 @@
+pub mod Finals
 pub mod Assigned
 pub mod Upwards
 pub mod Kept

@@ -14,9 +14,9 @@ use Rattle.set_lookups.specs.Flags.{is_inherited}
 use Rattle.set_lookups.specs.Lookups.{super_at, supers, superinterfaces, declared, method_here, member_in, has_method, select_by}
 use Rattle.set_lookups.specs.Rows.{Ranked}
 use Rattle.set_lookups.proofs.Index.{found_above, shorter}
-use Rattle.set_lookups.proofs.Levels.{none_of}
+use Rattle.set_lookups.proofs.UpPieces.{none_of}
 use Rattle.set_lookups.proofs.Names.{is_some-position}
-use Rattle.set_lookups.proofs.SameTypes.{one_test, name_true, desc_true, and_first, and_second}
+use Rattle.set_lookups.specs.SameTypes.{one_test, name_true, desc_true, and_first, and_second}
 use Rattle.set_lookups.proofs.Settled.{supers_law}
 use Rattle.class_set.specs.Calls.{lacks_body}
 use Rattle.class_set.specs.Core.{init_name}

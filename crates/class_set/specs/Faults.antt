@@ -21,14 +21,19 @@ of_links (links.Missing name) = Missing name
 of_links (links.Cycle name) = Cycle name
 of_links links.Memory = Memory
 
+-- the first kind that refuses classes that are linked
+abbrev pub fault_of_linked : List ClassDef → Option SetFault
+fault_of_linked set =
+    option_or (option_map FinalSuper (final_super set))
+    (option_or (option_map Core (core set))
+    (option_or (option_map Unresolved (unresolved set))
+    (option_or (option_map WrongKind (wrong_kind set))
+    (option_map Abstract (abstract_left set)))))
+
 -- the first kind that refuses the classes, with the name or text that is told
 unfoldable pub first_fault : List ClassDef → Option SetFault
 first_fault set =
     option_or (option_map Duplicate (duplicate set))
     (option_or (option_map Missing (missing set))
     (option_or (option_map Cycle (cycle set))
-    (option_or (option_map FinalSuper (final_super set))
-    (option_or (option_map Core (core set))
-    (option_or (option_map Unresolved (unresolved set))
-    (option_or (option_map WrongKind (wrong_kind set))
-    (option_map Abstract (abstract_left set))))))))
+    (fault_of_linked set)))

@@ -3,7 +3,7 @@
 ghost use Rattle.std.specs.Prelude.{◌≡◌, ◌≤◌, None, MatchResult, is_some, option_map, length};
 ghost use Rattle.set_lookups.specs.Counts.{AreCounted};
 ghost use Rattle.class_set.specs.Answer.{IsFault};
-ghost use Rattle.class_set.specs.Faults.{first_fault};
+ghost use Rattle.class_set.specs.Faults.{fault_of_linked, first_fault};
 ghost use Rattle.class_set.specs.FinalSuper.{final_super};
 ghost use Rattle.class_set.specs.References.{unresolved};
 ghost use Rattle.class_set.specs.Calls.{wrong_kind};
@@ -94,6 +94,19 @@ fn check_open(set: &Hierarchy) -> Result<(), SetFault>
     Ok(())
 }
 
+/// The kinds of fault that linked classes can have, in their order.
+fn judge_linked(alloc: Global, set: &Hierarchy) -> Result<(), SetFault>
+    requires few { length set.now ≤ 1001000 }
+    requires ranked { AreRanked set.now }
+    ensures { MatchResult result (λ _. fault_of_linked set.now ≡ None) (IsFault (fault_of_linked set.now)) }
+{
+    check_final_super(alloc, set)?;
+    check_core(alloc, set)?;
+    check_resolved(alloc, set)?;
+    check_kinds(alloc, set)?;
+    check_open(set)
+}
+
 impl ClassSet {
     /// The closed set of these classes, which are numbered in their order. Else the first kind of fault by the order of
     /// `SetFault`: of the first class that has it, for `Missing`, `Unresolved` and `WrongKind` by the order of the
@@ -106,11 +119,7 @@ impl ClassSet {
             (IsFault (first_fault classes)) }
     {
         let set = link_classes(alloc, classes)?;
-        check_final_super(alloc, &set)?;
-        check_core(alloc, &set)?;
-        check_resolved(alloc, &set)?;
-        check_kinds(alloc, &set)?;
-        check_open(&set)?;
+        judge_linked(alloc, &set)?;
         Ok(ClassSet::of(set))
     }
 }

@@ -47,6 +47,14 @@ impl ClassSet {
         self.classes.len()
     }
 
+    /// The classes, in the order of their numbers. Takes no memory.
+    pub fn classes(&self) -> &[ClassDef]
+        ensures same { result.now ≡ self.now }
+        ensures closed { Closed self.now }
+    {
+        self.classes.classes()
+    }
+
     /// The class of a number.
     pub fn class(&self, id: ClassId) -> &ClassDef
         requires { id.0 < length self.now }

@@ -3,18 +3,17 @@
 ghost use Rattle.std.specs.Prelude.{◌≡◌, ◌||◌, List, ℕ, not, IfOk, OnOk, slice_get};
 ghost use Rattle.std.specs.List.{list_any};
 ghost use Rattle.set_lookups.specs.Above.{same_name};
-ghost use Rattle.set_lookups.specs.Same.{same_desc};
 ghost use Rattle.set_lookups.specs.First.{holds_of};
 ghost use Rattle.set_lookups.specs.Flags as flags;
 ghost use Rattle.set_lookups.specs.Lookups.{super_at, interfaces_at};
 ghost use Rattle.class_set.specs.FinalSuper as table;
-ghost use Rattle.class_set.specs.Upwards.{is_kept_named, HoldsFinals};
+ghost use Rattle.class_set.specs.Upwards.{is_kept_named, methods_of, HoldsFinals};
 
-use crate::above::{SuperWalk, methods_of};
+use crate::above::SuperWalk;
 use crate::flags::{is_final, is_inherited, is_interface};
-use class_model::{ClassDef, MethodDef, MethodDesc};
+use class_model::{ClassDef, MethodDef};
 use indexmap::IndexSet;
-use lists::{Name, Same};
+use lists::Name;
 use set_lookups::{ClassId, Hierarchy};
 use std::alloc::{AllocError, Global};
 
@@ -51,26 +50,11 @@ pub fn final_names(alloc: Global, classes: &[ClassDef]) -> Result<IndexSet<Name>
     Ok(names)
 }
 
-fn is_same_desc(desc: &MethodDesc, other: &MethodDesc) -> bool
-    ensures { result ≡ same_desc desc.now other.now }
+/// Whether a class declares a final method that a class below with this one overrides.
+fn keeps_final(set: &Hierarchy, number: u32, method: &MethodDef) -> bool
+    ensures { result ≡ list_any (table.is_kept method.now) (methods_of set.now number) }
 {
-    desc.same(other)
-}
-
-/// A final method that a class below cannot have again.
-fn is_kept(method: &MethodDef, other: &MethodDef) -> bool
-    ensures { result ≡ table.is_kept method.now other.now }
-{
-    is_final(other.flags)
-        && is_inherited(other)
-        && other.name == method.name
-        && is_same_desc(&other.desc, &method.desc)
-}
-
-fn any_kept(method: &MethodDef, methods: &[MethodDef]) -> bool
-    ensures { result ≡ list_any (table.is_kept method.now) methods.now }
-{
-    methods.iter().any(|other| is_kept(method, other))
+    set.declares_final(number, &method.name, &method.desc)
 }
 
 /// Whether a superclass has a final method that this one overrides.
@@ -79,7 +63,7 @@ fn overrides_above(set: &Hierarchy, number: u32, method: &MethodDef) -> bool
 {
     let mut walk = SuperWalk::above_class(set, number);
     while let Some(higher) = walk.next() {
-        if any_kept(method, methods_of(set, higher)) {
+        if keeps_final(set, higher, method) {
             return true;
         }
     }

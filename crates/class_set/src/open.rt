@@ -1,17 +1,18 @@
 //! Classes that leave an abstract method open.
 
-ghost use Rattle.std.specs.Prelude.{◌≡◌, ◌∷◌, [], ◌++◌};
+ghost use Rattle.std.specs.Prelude.{◌≡◌, ◌++◌};
 ghost use Rattle.std.specs.List.{list_any};
-ghost use Rattle.set_lookups.specs.Lookups.{supers, levels, superinterfaces};
+ghost use Rattle.set_lookups.specs.Lookups.{supers, superinterfaces};
 ghost use Rattle.class_set.specs.FinalSuper.{classes_above, methods_at};
 ghost use Rattle.class_set.specs.Open as table;
+ghost use Rattle.class_set.specs.Upwards as upwards;
 
 use crate::above::{SuperWalk, methods_of};
 use crate::core_shapes::is_text;
 use crate::flags::{is_abstract, is_inherited, is_interface};
 use crate::wrong_kind::lacks_body;
 use class_model::{ClassDef, MethodDef};
-use set_lookups::{ClassId, Hierarchy};
+use set_lookups::{ClassId, ClassTest, Hierarchy};
 
 fn is_concrete(class: &ClassDef) -> bool
     ensures { result ≡ table.is_concrete class.now }
@@ -35,39 +36,29 @@ fn any_open(set: &Hierarchy, number: u32, methods: &[MethodDef]) -> bool
     methods.iter().any(|method| is_open(set, number, method))
 }
 
-/// Whether a method of an interface, or of those at most so many levels above it, is open in a class.
-#[cycle(open)]
-fn any_open_from(set: &Hierarchy, number: u32, steps: u32, interface: u32) -> bool
-    ensures { result ≡ list_any (table.is_open set.now number) (methods_at set.now (levels steps set.now (interface ∷ []))) }
-{
-    if any_open(set, number, methods_of(set, interface)) {
-        return true;
-    }
-    if steps == 0 {
-        return false;
-    }
-    any_open_above(set, number, steps - 1, set.interfaces(interface))
+/// To have a method that is open in a class.
+#[derive(Drop)]
+struct HasOpen<'a> {
+    set: &'a Hierarchy,
+    number: u32,
 }
 
-/// The same for some interfaces in turn.
-#[cycle(open)]
-fn any_open_above(set: &Hierarchy, number: u32, steps: u32, interfaces: &[u32]) -> bool
-    ensures { result ≡ list_any (table.is_open set.now number) (methods_at set.now (levels steps set.now interfaces.now)) }
-{
-    for interface in interfaces {
-        if any_open_from(set, number, steps, *interface) {
-            return true;
-        }
+impl ClassTest for HasOpen<'_> {
+    ghost passes = { λ test higher. list_any (table.is_open test.set.now test.number) (upwards.methods_of test.set.now higher) };
+
+    fn passes(&self, number: u32) -> bool {
+        any_open(self.set, self.number, methods_of(self.set, number))
     }
-    false
 }
 
 /// Whether a method that a superclass has from itself or from its interfaces is open in a class.
 fn any_open_at(set: &Hierarchy, number: u32, higher: u32) -> bool
     ensures { result ≡ table.open_at set.now number higher }
 {
-    any_open(set, number, methods_of(set, higher))
-        || any_open_above(set, number, set.len(), set.interfaces(higher))
+    if any_open(set, number, methods_of(set, higher)) {
+        return true;
+    }
+    set.any_superinterface(higher, &HasOpen { set, number })
 }
 
 /// Whether a method of a class, of a superclass or of a superinterface is open in it.

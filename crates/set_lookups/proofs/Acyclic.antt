@@ -1,17 +1,17 @@
 -- Where there are ranks, no class is above itself.
-use Rattle.std.proofs.Common.{◌≡◌, ◌∙◌, ℕ, ◌+◌, ◌<◌, ◌≤◌, ◌&&◌, zero, suc, Bool, true, false, cond, List, [], ◌∷◌, ◌++◌, map, length, refl, sym, ap, subst, Option, Some, None, arith, ◌⊎◌, inl, inr}
+use Rattle.std.proofs.Common.{◌≡◌, ◌∙◌, ℕ, ◌+◌, ◌<◌, ◌≤◌, ◌&&◌, zero, suc, Bool, true, false, cond, List, [], ◌∷◌, ◌++◌, map, length, refl, sym, ap, Option, Some, None, arith, ◌⊎◌, inl, inr}
 use Rattle.std.specs.Prelude.{slice_get, slice_index, option_to_list, option_and_then, filter_map}
 use Rattle.std.specs.Option.{option_or}
-use Rattle.std.specs.List.{list_any, list_all, cons_option}
+use Rattle.std.specs.List.{list_all, cons_option}
 use Rattle.std.proofs.lemmas.Option.{slice_get_within, same_Some}
 use Rattle.std.proofs.lemmas.Bool.{ltb-true, cases_lt}
 use Rattle.std.proofs.lemmas.List.{get_or_past}
 use Rattle.class_model.specs.declared.class.ClassDef.{ClassDef}
 use Rattle.set_lookups.specs.declared.row.Row.{Row}
-use Rattle.set_lookups.specs.Above.{Direct, Subtype, same, up, above, reaches, find_class, super_of, interfaces_of}
+use Rattle.set_lookups.specs.Above.{Subtype, same, up, above, reaches, find_class, super_of, interfaces_of}
 use Rattle.set_lookups.specs.Cycle.{is_in_cycle, cycle}
 use Rattle.set_lookups.specs.First.{first_from, name_if}
-use Rattle.set_lookups.specs.Ranking.{is_lower, is_super_lower, is_row_ranked, PlaceRanked, RowsRanked}
+use Rattle.set_lookups.specs.Ranking.{is_lower, is_super_lower, RowsRanked}
 use Rattle.set_lookups.specs.Links.{place_of, row_of}
 use Rattle.set_lookups.specs.Lookups.{super_at, interfaces_at}
 use Rattle.set_lookups.specs.Rows.{AreRows, Ranked}
@@ -19,8 +19,8 @@ use Rattle.set_lookups.proofs.Index.{no_row, row_links, place_in_names}
 use Rattle.set_lookups.proofs.Lists.{nowhere}
 use Rattle.set_lookups.proofs.Names.{names_of}
 use Rattle.set_lookups.proofs.Settled.{above_parts}
-use Rattle.set_lookups.proofs.SameTypes.{one_test, and_first, and_second}
-use Rattle.set_lookups.proofs.Subtypes.{Passes, passes, reached}
+use Rattle.set_lookups.specs.SameTypes.{one_test, and_first, and_second}
+use Rattle.set_lookups.proofs.Subtypes.{passes, reached}
 
 pub falls_far : (set : List ClassDef) (ranks : List ℕ) → Ranked set ranks → (low high : ℕ) → Subtype set low high → slice_index ranks high ≤ slice_index ranks low
 falls_far set ranks r low high same = omega arith

@@ -11,9 +11,9 @@ use Rattle.set_lookups.specs.Above.{same_name, find_class, super_of, interfaces_
 use Rattle.set_lookups.specs.First.{first}
 use Rattle.set_lookups.specs.Lookups.{supers, super_at, interfaces_at}
 use Rattle.set_lookups.specs.Rows.{AreRows, Ranked, Shows}
-use Rattle.set_lookups.proofs.Lists.{first_append, or_none}
+use Rattle.set_lookups.proofs.Lists.{or_none}
 use Rattle.set_lookups.proofs.Settled.{supers_law}
-use Rattle.set_lookups.proofs.SameTypes.{one_test, name_self, name_true}
+use Rattle.set_lookups.specs.SameTypes.{one_test, name_self, name_true}
 use denote.Ref.{Bor}
 
 -- rows

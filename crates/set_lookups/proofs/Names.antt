@@ -1,6 +1,6 @@
 -- The names of classes, taken from the last one on.
-use Rattle.std.proofs.Common.{◌≡◌, ◌∙◌, ℕ, ◌+◌, ◌-◌, ◌<◌, ◌≤◌, ◌||◌, Bool, true, false, cond, not, List, [], ◌∷◌, ◌++◌, map, reverse, length, drop, take, get_or, refl, sym, ap, subst, Option, Some, None, arith}
-use Rattle.std.specs.Prelude.{option_copied, is_some, position, filter_map}
+use Rattle.std.proofs.Common.{◌≡◌, ◌∙◌, ℕ, ◌+◌, ◌<◌, ◌≤◌, ◌||◌, Bool, true, false, cond, not, List, [], ◌∷◌, ◌++◌, map, reverse, length, drop, take, get_or, refl, sym, ap, subst, Option, Some, None, arith}
+use Rattle.std.specs.Prelude.{is_some, position, filter_map}
 use Rattle.std.specs.List.{list_any, position_from, cons_option}
 use Rattle.std.proofs.lemmas.List.{at_drop_more, drop_all, take_more}
 use Rattle.std.proofs.lemmas.List.Elements.{filter_map-append}
@@ -14,7 +14,7 @@ use Rattle.set_lookups.specs.First.{first}
 use Rattle.set_lookups.specs.Needed.{first_again, if_absent, if_missing}
 use Rattle.set_lookups.proofs.Lists.{first_alike}
 use Rattle.set_lookups.proofs.Index.{place_in_names}
-use Rattle.set_lookups.proofs.SameTypes.{one_test, name_true, name_self}
+use Rattle.set_lookups.specs.SameTypes.{name_true}
 
 abbrev pub names_of : List ClassDef → List (List ℕ)
 names_of set = map (λ class. class.name) set

@@ -1,5 +1,5 @@
 -- What follows from ranks: look-ups that go up in so many steps do not change with one step more.
-use Rattle.std.proofs.Common.{◌≡◌, ◌∙◌, ℕ, ◌+◌, ◌<◌, ◌≤◌, ◌||◌, zero, suc, Bool, true, false, eqb, List, [], ◌∷◌, ◌++◌, length, refl, sym, ap, Option, Some, None, arith}
+use Rattle.std.proofs.Common.{◌≡◌, ◌∙◌, ℕ, ◌≤◌, ◌||◌, zero, suc, Bool, eqb, List, [], ◌∷◌, ◌++◌, length, refl, sym, ap, Option, Some, None, arith}
 use Rattle.std.specs.Prelude.{slice_get, slice_index, flat_map}
 use Rattle.std.specs.List.{list_any}
 use Rattle.class_model.specs.declared.class.ClassDef.{ClassDef}
@@ -7,7 +7,7 @@ use Rattle.set_lookups.specs.Above.{Direct, above, reaches, is_subtype, at_class
 use Rattle.set_lookups.specs.Lookups.{super_at, interfaces_at, chain, supers}
 use Rattle.set_lookups.specs.Rows.{Ranked}
 use Rattle.std.proofs.Math.Bool.{or-false}
-use Rattle.set_lookups.proofs.Lists.{any_alike, first_alike, flat_alike, at_left, at_right, empty, or_none}
+use Rattle.set_lookups.proofs.Lists.{any_alike, flat_alike, at_left, at_right, empty}
 
 -- a step up that looks no further than directly above
 abbrev pub Local : {A : Type 0} → List ClassDef → ((ℕ → A) → ℕ → A) → Type 0

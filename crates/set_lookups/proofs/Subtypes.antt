@@ -4,7 +4,7 @@ use Rattle.std.specs.Prelude.{slice_get}
 use Rattle.std.specs.List.{list_any}
 use Rattle.class_model.specs.declared.class.ClassDef.{ClassDef}
 use Rattle.std.proofs.lemmas.Option.{same_Some}
-use Rattle.set_lookups.specs.Above.{Direct, Subtype, same, up, above, reaches, is_subtype}
+use Rattle.set_lookups.specs.Above.{Subtype, same, up, above, reaches, is_subtype}
 use Rattle.set_lookups.specs.Rows.{Ranked}
 use Rattle.set_lookups.proofs.Settled.{subtype_law}
 

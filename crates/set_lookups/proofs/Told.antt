@@ -1,5 +1,5 @@
 -- The kinds of fault in their order.
-use Rattle.std.proofs.Common.{◌≡◌, ◌∙◌, List, refl, sym, ap, subst, Option, Some, None, Result, Ok, Err}
+use Rattle.std.proofs.Common.{◌≡◌, ◌∙◌, List, sym, ap, subst, Option, None, Result, Ok, Err}
 use Rattle.std.specs.Prelude.{option_map, IsErrAnd, MatchResult}
 use Rattle.std.specs.Option.{option_or}
 use Rattle.class_model.specs.declared.class.ClassDef.{ClassDef}

@@ -1,5 +1,5 @@
 -- What a pass over the classes answers, want of memory aside. This project's own rules.
-use Rattle.std.specs.Prelude.{◌≡◌, ℕ, List, Option, Some, None, Result, Ok, Err, option_map}
+use Rattle.std.specs.Prelude.{◌≡◌, List, Option, Some, option_map}
 use Rattle.std.specs.Option.{option_or}
 use Rattle.class_model.specs.declared.class.ClassDef.{ClassDef}
 use Rattle.set_lookups.specs.declared.fault.HierarchyFault.{HierarchyFault}

@@ -12,3 +12,8 @@ pub mod Level
 pub mod Answer
 pub mod Links
 pub mod Ranking
+pub mod Levels
+pub mod Meets
+pub mod SameTypes
+pub mod Members
+pub mod MemberKeys

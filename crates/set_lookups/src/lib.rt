@@ -8,18 +8,22 @@ mod duplicates;
 mod fault;
 mod hierarchy;
 mod ids;
+mod level_build;
+mod levels;
 mod links;
+mod member_key;
+mod member_table;
 mod members;
 mod missing;
+mod near;
 mod needs;
 mod ranks;
-mod reach;
 mod row;
 
 pub use build::link_classes;
 pub use counts::are_counted;
 pub use fault::HierarchyFault;
-pub use hierarchy::Hierarchy;
+pub use hierarchy::{ClassTest, Hierarchy};
 pub use ids::{ClassId, MethodId};
 
 #[cfg(test)]

@@ -1,6 +1,6 @@
 //! The numbers of the superclass and the interfaces of each class.
 
-ghost use Rattle.std.specs.Prelude.{◌≡◌, ◌≤◌, ◌++◌, [], map, IfOk, OnOk, length, filter_map};
+ghost use Rattle.std.specs.Prelude.{◌≡◌, ◌≤◌, ◌++◌, [], map, IfOk, OnOk, length, filter_map, option_to_list};
 ghost use Rattle.std.specs.List.{cons_option};
 ghost use Rattle.set_lookups.specs.Links.{place_of, row_of};
 
@@ -70,4 +70,51 @@ pub fn link_all(
         rows.push(link(alloc, names, class)?)?;
     }
     Ok(rows)
+}
+
+/// The interfaces of each class.
+pub fn interface_lists(alloc: Global, rows: &[Row]) -> Result<Seq<Seq<u32>>, AllocError>
+    ensures { IfOk result (λ lists. lists ≡ map (λ row. row.interfaces) rows.now) }
+{
+    let mut lists = Seq::new(alloc);
+    for row in rows {
+        lists.push(row.interfaces.clone()?)?;
+    }
+    Ok(lists)
+}
+
+/// A class's superclass, if any.
+fn super_list(alloc: Global, superclass: Option<u32>) -> Result<Seq<u32>, AllocError>
+    ensures { IfOk result (λ list. list ≡ option_to_list superclass) }
+{
+    let mut list = Seq::new(alloc);
+    match superclass {
+        Some(number) => {
+            list.push(number)?;
+            Ok(list)
+        }
+        None => Ok(list),
+    }
+}
+
+/// A class's superclass and its interfaces.
+fn above_row(alloc: Global, row: &Row) -> Result<Seq<u32>, AllocError>
+    ensures { IfOk result (λ list. list ≡ option_to_list row.now.superclass ++ row.now.interfaces) }
+{
+    let mut list = super_list(alloc, row.superclass)?;
+    for number in row.interfaces.as_slice() {
+        list.push(*number)?;
+    }
+    Ok(list)
+}
+
+/// The classes directly above each class.
+pub fn above_lists(alloc: Global, rows: &[Row]) -> Result<Seq<Seq<u32>>, AllocError>
+    ensures { IfOk result (λ lists. lists ≡ map (λ row. option_to_list row.superclass ++ row.interfaces) rows.now) }
+{
+    let mut lists = Seq::new(alloc);
+    for row in rows {
+        lists.push(above_row(alloc, row)?)?;
+    }
+    Ok(lists)
 }

@@ -163,6 +163,6 @@ pub fn rank_classes(
     if are_ranks(rows.as_slice(), ranks.as_slice()) {
         Ok(ranks)
     } else {
-        find_cycle(classes, rows)
+        find_cycle(alloc, classes, rows)
     }
 }

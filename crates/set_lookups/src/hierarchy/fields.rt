@@ -1,20 +1,37 @@
 //! Fields, looked up by name and type.
 
-ghost use Rattle.std.specs.Prelude.{◌≡◌, option_copied, option_map};
+ghost use Rattle.std.specs.Prelude.{◌≡◌, ℕ, true, None, Some, IfSome, IfNone, is_some, length, slice_get, option_copied, option_map, option_and_then};
+ghost use Rattle.set_lookups.specs.Above.{Direct};
 ghost use Rattle.set_lookups.specs.First.{first};
 ghost use Rattle.set_lookups.specs.Lookups as look;
+ghost use Rattle.set_lookups.specs.Rows.{Ranked};
 
 use crate::hierarchy::Hierarchy;
+use crate::hierarchy::reached::ClassTest;
 use crate::ids::{ClassId, MethodId};
-use crate::members::find_field;
 use class_model::{FieldDef, FieldRef};
+
+/// To declare the field that a reference names.
+#[derive(Drop)]
+struct HasField<'a> {
+    set: &'a Hierarchy,
+    target: &'a FieldRef,
+}
+
+impl ClassTest for HasField<'_> {
+    ghost passes = { λ test number. is_some (look.declared_field test.set.now test.target.now number) };
+
+    fn passes(&self, number: u32) -> bool {
+        self.set.declared_field(number, self.target).is_some()
+    }
+}
 
 impl Hierarchy {
     /// The field of a number.
     pub fn field(&self, id: MethodId) -> Option<&FieldDef>
         ensures { option_copied result ≡ look.field_at self.now id }
     {
-        match self.classes.get(id.class as usize) {
+        match self.parts.classes.get(id.class as usize) {
             Some(class) => class.fields.get(id.index as usize),
             None => None,
         }
@@ -24,55 +41,62 @@ impl Hierarchy {
     fn declared_field(&self, at: u32, target: &FieldRef) -> Option<MethodId>
         ensures { result ≡ look.declared_field self.now target.now at }
     {
-        match self.classes.get(at as usize) {
-            Some(class) => match find_field(class, target) {
-                Some(index) => Some(MethodId { class: at, index }),
-                None => None,
-            },
+        match self.index().members.field(at, target) {
+            Some(index) => Some(MethodId { class: at, index }),
             None => None,
         }
     }
 
-    /// The field that a class has in at most so many steps up: its own, else the first of its superinterfaces, else
-    /// that of its superclass, each by the same rule. The superclasses are taken in a loop.
-    #[cycle(fields)]
-    fn find_field(&self, steps: u32, start: u32, target: &FieldRef) -> Option<MethodId>
-        ensures { result ≡ look.field_from steps self.now target.now start }
+    /// Whether a class or one that is above it has the field that a reference names.
+    fn has_field(&self, at: u32, target: &FieldRef) -> bool
+        ensures { result ≡ is_some (look.field_from (length self.now) self.now target.now at) }
     {
-        let mut left = steps;
+        self.meets(at, &HasField { set: self, target })
+    }
+
+    /// The first of some classes that has the field, or has it from above.
+    fn find_owner(&self, numbers: &[u32], target: &FieldRef) -> Option<u32>
+        ensures none { IfNone result (first (look.field_from (length self.now) self.now target.now) numbers.now ≡ None) }
+        ensures there { IfSome result (λ next. (k : ℕ) × (slice_get numbers.now k ≡ Some next)) }
+        ensures same { IfSome result (λ next. first (look.field_from (length self.now) self.now target.now) numbers.now ≡ look.field_from (length self.now) self.now target.now next) }
+        ensures has { IfSome result (λ next. is_some (look.field_from (length self.now) self.now target.now next) ≡ true) }
+    {
+        for number in numbers {
+            if self.has_field(*number, target) {
+                return Some(*number);
+            }
+        }
+        None
+    }
+
+    /// The field that a class has: its own, else the first of its superinterfaces, else that of its superclass, each by
+    /// the same rule. Each turn goes on to the one class above that has it.
+    fn find_field(&self, ranks: &[u32], start: u32, target: &FieldRef) -> Option<MethodId>
+        requires { Ranked self.now ranks.now }
+        ensures { result ≡ look.field_from (length self.now) self.now target.now start }
+    {
         let mut at = start;
         loop {
             if let Some(found) = self.declared_field(at, target) {
                 return Some(found);
             }
-            if left == 0 {
-                return None;
-            }
-            left -= 1;
-            let Some(row) = self.row(at) else {
-                return None;
-            };
-            if let Some(found) = self.find_in_each(left, row.interfaces.as_slice(), target) {
-                return Some(found);
-            }
-            match row.superclass {
+            match self.find_above(at, target) {
                 Some(next) => at = next,
                 None => return None,
             }
         }
     }
 
-    /// The first field that some interfaces have in turn.
-    #[cycle(fields)]
-    fn find_in_each(&self, steps: u32, numbers: &[u32], target: &FieldRef) -> Option<MethodId>
-        ensures { result ≡ first (look.field_from steps self.now target.now) numbers.now }
+    /// The class directly above from which a class has the field, where it declares none.
+    fn find_above(&self, at: u32, target: &FieldRef) -> Option<u32>
+        ensures only { look.declared_field self.now target.now at ≡ None → look.field_from (length self.now) self.now target.now at ≡ option_and_then (look.field_from (length self.now) self.now target.now) result }
+        ensures above { IfSome result (λ next. Direct self.now at next) }
     {
-        for number in numbers {
-            if let Some(found) = self.find_field(steps, *number, target) {
-                return Some(found);
-            }
+        let _ = &self.parts.ranks;
+        match self.find_owner(self.interfaces(at), target) {
+            Some(next) => Some(next),
+            None => self.superclass(at),
         }
-        None
     }
 
     /// The field that a reference names (JVMS 5.4.3.2): its class, and its number there. `None` where there
@@ -84,7 +108,7 @@ impl Hierarchy {
         let Some(start) = self.number(&target.class) else {
             return None;
         };
-        match self.find_field(self.len(), start, target) {
+        match self.find_field(self.parts.ranks.as_slice(), start, target) {
             Some(found) => Some((ClassId(found.class), found.index)),
             None => None,
         }

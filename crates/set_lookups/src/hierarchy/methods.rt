@@ -1,14 +1,15 @@
 //! Methods, looked up by name and descriptor.
 
-ghost use Rattle.std.specs.Prelude.{◌≡◌, option_copied, option_and_then};
+ghost use Rattle.std.specs.Prelude.{◌≡◌, ◌&&◌, is_some, option_copied, option_and_then};
 ghost use Rattle.set_lookups.specs.Above.{find_class};
 ghost use Rattle.set_lookups.specs.First.{first};
+ghost use Rattle.set_lookups.specs.Flags.{is_final, is_inherited};
 ghost use Rattle.set_lookups.specs.Lookups as look;
 ghost use Rattle.set_lookups.specs.Wanted.{passes};
 
 use crate::hierarchy::Hierarchy;
 use crate::ids::{ClassId, MethodId};
-use crate::members::{Wanted, find_method};
+use crate::members::Wanted;
 use class_model::{BaseType, JType, MethodDef, MethodDesc, MethodRef};
 use lists::Name;
 
@@ -23,13 +24,17 @@ impl Hierarchy {
     ) -> Option<MethodId>
         ensures { result ≡ look.declared self.now name.now desc.now (passes wanted) at }
     {
-        match self.classes.get(at as usize) {
-            Some(class) => match find_method(class, name, desc, wanted) {
-                Some(index) => Some(MethodId { class: at, index }),
-                None => None,
-            },
+        match self.index().members.method(at, name, desc, wanted) {
+            Some(index) => Some(MethodId { class: at, index }),
             None => None,
         }
+    }
+
+    /// Whether a class declares a final method of a name and a descriptor that classes below cannot have again.
+    pub fn declares_final(&self, at: u32, name: &Name, desc: &MethodDesc) -> bool
+        ensures { result ≡ is_some (look.declared self.now name.now desc.now (λ method. is_final method.flags && is_inherited method) at) }
+    {
+        self.declared(at, name, desc, Wanted::Final).is_some()
     }
 
     /// The first wanted method of a name and a descriptor that a class or one of its superclasses upwards
@@ -43,7 +48,7 @@ impl Hierarchy {
     ) -> Option<MethodId>
         ensures { result ≡ first (look.declared self.now name.now desc.now (passes wanted)) (look.supers self.now start) }
     {
-        let _ = &self.ranks;
+        let _ = &self.parts.ranks;
         let mut at = start;
         loop {
             if let Some(found) = self.declared(at, name, desc, wanted) {
@@ -60,7 +65,7 @@ impl Hierarchy {
     pub fn method(&self, id: MethodId) -> Option<&MethodDef>
         ensures { option_copied result ≡ look.method_at self.now id }
     {
-        match self.classes.get(id.class as usize) {
+        match self.parts.classes.get(id.class as usize) {
             Some(class) => class.methods.get(id.index as usize),
             None => None,
         }

@@ -1,6 +1,6 @@
 use Rattle.std.proofs.Common.{◌∙◌, sym, refl}
 use Rattle.std.proofs.Common.{arith}
-use Rattle.set_lookups.proofs.Levels.{none_of}
+use Rattle.set_lookups.proofs.UpPieces.{none_of}
 use Rattle.class_set.specs.Open.{abstract_left, leaves_open, newly_left}
 use Rattle.class_set.specs.declared.fault.SetFault.TheVariants.{Abstract}
 use Rattle.class_set.proofs.Judged.{class_passed, class_found, none_found}

@@ -1,8 +1,12 @@
-use Rattle.std.proofs.Common.{◌≡◌, ◌∙◌, sym, ap, subst, map}
+use Rattle.std.proofs.Common.{◌∙◌, sym, ap, subst, map}
 use Rattle.std.specs.Prelude.{option_map}
 use Rattle.set_lookups.specs.declared.fault.HierarchyFault.TheVariants.{Cycle}
+use Rattle.set_lookups.specs.Above.{above}
 use Rattle.set_lookups.specs.Answer.{IsFault, link_fault}
+use Rattle.set_lookups.specs.Levels.{IsAbove}
+use Rattle.set_lookups.specs.Lookups.{interfaces_at}
 use Rattle.set_lookups.specs.Links.{row_of}
+use Rattle.set_lookups.specs.Members.{AreMembers}
 use Rattle.set_lookups.specs.Needed.{duplicate}
 use Rattle.set_lookups.specs.Cycle.{cycle}
 use Rattle.set_lookups.specs.Rows.{AreRows, Ranked}
@@ -28,6 +32,13 @@ rank_classes-requires-clause-rows c =
     let linked = made_rows c.args.classes keys c.in_ok-rows.rows named (c.in_ok-rows.ensures ∙ ap (map (row_of keys)) c.as_slice-2.ensures) in
     subst (λ set. AreRows set c.in_ok-rows.rows) (sym c.as_slice-3.ensures) linked
 
+pub levels_above-requires-clause-rows : goal.levels_above-requires-clause-rows
+levels_above-requires-clause-rows c =
+    let keys = c.in_ok-names.names.keys in
+    let named = c.in_ok-names.ensures.1 ∙ ap names_of c.as_slice.ensures in
+    let linked = made_rows c.args.classes keys c.in_ok-rows.rows named (c.in_ok-rows.ensures ∙ ap (map (row_of keys)) c.as_slice-2.ensures) in
+    subst (λ set. AreRows set c.in_ok-rows.rows) (sym c.as_slice-4.ensures) linked
+
 pub returns-in_err-ranks : goal.returns-in_err-ranks
 returns-in_err-ranks c =
     let fault = c.in_err-ranks.field-0.0 in
@@ -44,9 +55,12 @@ from_parts-requires c =
       named = named;
       linked = made_rows c.args.classes keys c.in_ok-rows.rows named (c.in_ok-rows.ensures ∙ ap (map (row_of keys)) c.as_slice-2.ensures);
       ranked = subst (λ set. Ranked set c.in_ok-ranks.ranks) c.as_slice-3.ensures c.in_ok-ranks.ensures.1;
+      in_breadth = subst (λ set. IsAbove (interfaces_at set) (interfaces_at set) c.in_ok-breadth.breadth.levels c.in_ok-breadth.breadth.starts) c.as_slice-4.ensures c.in_ok-breadth.ensures.0;
+      in_reach = subst (λ set. IsAbove (interfaces_at set) (above set) c.in_ok-breadth.reached.levels c.in_ok-breadth.reached.starts) c.as_slice-4.ensures c.in_ok-breadth.ensures.1;
+      in_members = subst (λ set. AreMembers set c.in_ok-members.members.fields c.in_ok-members.members.methods c.in_ok-members.members.no_types) c.as_slice-6.ensures c.in_ok-members.ensures;
     }
 
 pub returns : goal.returns
 returns c =
     let d = sym (ap duplicate c.as_slice.ensures) ∙ c.in_ok-names.ensures.0 in
-    (c.from_parts.ensures, nothing_told c.args.classes d c.in_ok-check_missing.ensures (ap cycle (sym c.as_slice-3.ensures) ∙ c.in_ok-ranks.ensures.0))
+    (c.in_ok-from_parts.ensures, nothing_told c.args.classes d c.in_ok-check_missing.ensures (ap cycle (sym c.as_slice-3.ensures) ∙ c.in_ok-ranks.ensures.0))

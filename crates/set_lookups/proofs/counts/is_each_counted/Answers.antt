@@ -1,4 +1,4 @@
-use Rattle.std.proofs.Common.{◌∙◌, below_more, subst, get_or, arith, refl, sym}
+use Rattle.std.proofs.Common.{◌∙◌, below_more, subst, arith, refl, sym}
 use Rattle.std.proofs.lemmas.Bool.{false≢true}
 use Rattle.std.proofs.lemmas.List.{get_or_default}
 use Rattle.set_lookups.specs.Counts.{IsCounted}

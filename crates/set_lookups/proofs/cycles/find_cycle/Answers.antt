@@ -1,24 +1,10 @@
-use Rattle.std.proofs.Common.{◌≡◌, ◌∙◌, cond, refl, sym, ap, Some, None}
-use Rattle.std.specs.Prelude.{option_map}
-use Rattle.set_lookups.specs.First.{name_if}
-use Rattle.set_lookups.specs.Cycle.{cycle, is_in_cycle}
-use Rattle.set_lookups.specs.declared.fault.HierarchyFault.TheVariants.{Cycle}
-use Rattle.set_lookups.proofs.Pieces.{numbered_found, numbered_passed}
+use Rattle.std.proofs.Common.{◌∙◌, ◌++◌, map, ap}
+use Rattle.std.specs.Prelude.{option_to_list}
+use Rattle.set_lookups.specs.Levels.{edge}
+use Rattle.set_lookups.proofs.Linking.{above_edges}
 use Rattle.set_lookups.proofs.cycles.find_cycle.Goals as goal
 
-pub loop-at-init : goal.loop-at-init
-unfolding cycle
-loop-at-init c = refl
-
-pub loop-at-preserved : goal.loop-at-preserved
-loop-at-preserved c =
-    let class = c.index-classes-at.result in
-    let no = ap (λ b. cond b (Some class.name) None) (sym (c.is_above_itself.ensures class) ∙ c.if-is_above_itself.false) in
-    c.loop-at.invariant ∙ numbered_passed (name_if (is_in_cycle c.args.classes.now)) c.args.classes.now c.loop-at.at class c.loop-at-test.true c.index-classes-at.is (sym no)
-
-pub returns-then-is_above_itself : goal.returns-then-is_above_itself
-returns-then-is_above_itself c =
-    let class = c.index-classes-at.result in
-    let yes = ap (λ b. cond b (Some class.name) None) (sym (c.is_above_itself.ensures class) ∙ c.if-is_above_itself.true) in
-    let told = c.loop-at.invariant ∙ numbered_found (name_if (is_in_cycle c.args.classes.now)) c.args.classes.now c.loop-at.at class class.name c.loop-at-test.true c.index-classes-at.is (sym yes) in
-    ap (option_map Cycle) told ∙ ap (λ name. Some (Cycle name)) (sym c.in_ok-clone.ensures.cases)
+pub find_first-requires-clause-above : goal.find_first-requires-clause-above
+find_first-requires-clause-above c =
+    let made = c.in_ok-edges.ensures ∙ ap (map (λ row. option_to_list row.superclass ++ row.interfaces)) c.as_slice.ensures in
+    ap edge c.as_slice-2.ensures ∙ above_edges c.args.classes.now c.args.rows.now c.in_ok-edges.edges c.requires.rows made

@@ -1,4 +1,4 @@
-use Rattle.std.proofs.Common.{◌≡◌, ◌∙◌, ◌+◌, ◌-◌, ℕ, List, [], ◌∷◌, map, reverse, refl, sym, ap, subst, Some, None, arith, length, drop, get_or}
+use Rattle.std.proofs.Common.{◌∙◌, ◌-◌, reverse, sym, ap, Some, arith, length, drop, get_or}
 use Rattle.std.specs.Prelude.{option_copied, option_map}
 use Rattle.std.specs.List.{list_any}
 use Rattle.std.proofs.lemmas.List.{reverse-reverse}

@@ -1,4 +1,4 @@
-use Rattle.std.proofs.Common.{◌≡◌, ◌≤◌, ℕ, length, List, map, reverse, drop, None, Some}
+use Rattle.std.proofs.Common.{◌≡◌, ◌≤◌, ℕ, length, List, reverse, drop, None}
 use Rattle.std.specs.Prelude.{option_copied}
 use Rattle.std.specs.List.{list_any}
 use Rattle.set_lookups.specs.Above.{same_name}

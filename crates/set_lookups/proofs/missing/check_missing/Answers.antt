@@ -1,4 +1,4 @@
-use Rattle.std.proofs.Common.{◌≡◌, ◌∙◌, sym, ap, Some, None}
+use Rattle.std.proofs.Common.{◌∙◌, sym, ap, Some}
 use Rattle.std.specs.Prelude.{option_map, option_copied, flat_map}
 use Rattle.set_lookups.specs.Needed.{missing, needed}
 use Rattle.set_lookups.specs.declared.fault.HierarchyFault.TheVariants.{Missing}

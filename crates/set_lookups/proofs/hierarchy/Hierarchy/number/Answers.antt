@@ -6,5 +6,5 @@ use Rattle.set_lookups.proofs.hierarchy.Hierarchy.number.Goals as goal
 
 pub returns : goal.returns
 returns c =
-    c.number_of.ensures ∙ c.get_index_of.ensures.index ∙ ap (position (same_name c.args.name.now)) c.self.invariant.named ∙ place_in_names c.self.inside.classes c.args.name.now
-    ∙ ap (λ set. find_class set c.args.name.now) c.self.view_is
+    c.number_of.ensures ∙ c.get_index_of.ensures.index ∙ ap (position (same_name c.args.name.now)) c.index.ensures.holds.named ∙ place_in_names c.index.result.now.classes c.args.name.now
+    ∙ ap (λ set. find_class set c.args.name.now) c.index.ensures.shown

@@ -1,19 +1,13 @@
-use Rattle.std.proofs.Common.{◌≡◌, ◌∙◌, ap, subst, sym, length}
-use Rattle.set_lookups.specs.Above.{is_subtype, reaches}
-use Rattle.set_lookups.specs.Rows.{AreRows, Ranked}
+use Rattle.std.proofs.Common.{◌∙◌, sym, subst}
+use Rattle.set_lookups.specs.Rows.{Ranked}
+use Rattle.set_lookups.proofs.Meeting.{subtype_meets}
 use Rattle.set_lookups.proofs.Subtypes.{subtype_exact}
 use Rattle.set_lookups.proofs.hierarchy.Hierarchy.subtype.Goals as goal
 
-pub is_below-requires : goal.is_below-requires
-is_below-requires c = subst (λ set. AreRows set c.self.inside.rows) (sym c.as_slice.ensures) c.self.invariant.linked
-
 pub returns-clause-value : goal.returns-clause-value
-unfolding is_subtype
-returns-clause-value c =
-    c.is_below.ensures ∙ ap (λ set. reaches c.len-steps.result set c.args.low.0 c.args.high.0) (c.as_slice.ensures ∙ c.self.view_is)
-    ∙ ap (λ n. reaches n c.args.self.now c.args.low.0 c.args.high.0) (c.len-steps.ensures ∙ ap length c.self.view_is)
+returns-clause-value c = c.meets.ensures ∙ sym (subtype_meets c.args.self.now _ _)
 
 pub returns-clause-exact : goal.returns-clause-exact
 returns-clause-exact c =
-    let ranked = subst (λ set. Ranked set c.self.inside.ranks) c.self.view_is c.self.invariant.ranked in
-    subtype_exact c.args.self.now _ c.args.low.0 c.args.high.0 c.is_below.result ranked (returns-clause-value c)
+    let ranked = subst (λ set. Ranked set c.self.inside.parts.value.ranks) c.self.view_is c.self.invariant.ranked in
+    subtype_exact _ _ _ _ _ ranked (c.meets.ensures ∙ sym (subtype_meets c.args.self.now _ _))
