@@ -2,8 +2,9 @@
 
 ghost use Rattle.std.proofs.Common.{rules};
 
+use crate::listed::Listed;
 use class_model::MethodDesc;
-use lists::{Name, Plain, Seq};
+use lists::{Name, Plain};
 
 /// A method whose result is marked with a tag as it returns (this project's own). Names are in the form of the
 /// class file, with `/`.
@@ -23,11 +24,11 @@ pub struct Sink {
     pub desc: MethodDesc,
 }
 
-/// The lists of sources and sinks. A sink's number is its place in its list, from 0.
+/// The lists of sources and sinks, each of at most 65,535 entries. A sink's number is its place in its list, from 0.
 #[derive(Clone, Debug, PartialEq, Eq, Drop)]
 pub struct Config {
-    pub sources: Seq<Source>,
-    pub sinks: Seq<Sink>,
+    pub sources: Listed<Source>,
+    pub sinks: Listed<Sink>,
 }
 
 impl Plain for Source {

@@ -24,8 +24,8 @@ fn lists(alloc: Global) -> Result<Config, AllocError> {
         desc: desc(alloc),
     };
     Ok(Config {
-        sources: Seq::from_vec(vec![in alloc; source]?),
-        sinks: Seq::from_vec(vec![in alloc; sink]?),
+        sources: Listed::from_seq(Seq::from_vec(vec![in alloc; source]?)),
+        sinks: Listed::from_seq(Seq::from_vec(vec![in alloc; sink]?)),
     })
 }
 

@@ -1,22 +1,12 @@
 //! The entries of the lists that are built.
 
-ghost use Rattle.std.specs.Prelude.{◌≡◌, ◌∷◌, [], IfOk, Some, None};
+ghost use Rattle.std.specs.Prelude.{◌≡◌, IfOk};
 ghost use Rattle.first_form.specs.FirstSet as built;
-ghost use Rattle.first_form.specs.Natives.{int_type};
 
-use class_model::{BaseType, JType, MethodDesc, Primitive};
-use lists::{Name, Seq};
+use lists::Name;
 use run_state::{Sink, Source};
+use small_base::{gives_int, takes_int};
 use std::alloc::{AllocError, Global};
-
-fn int_type() -> JType
-    ensures { result ≡ int_type }
-{
-    JType {
-        depth: 0,
-        base: BaseType::Primitive(Primitive::Int),
-    }
-}
 
 /// `sys/Native.read()I`, with its tag.
 pub(crate) fn read_source(alloc: Global, tag: i32) -> Result<Source, AllocError>
@@ -25,10 +15,7 @@ pub(crate) fn read_source(alloc: Global, tag: i32) -> Result<Source, AllocError>
     Ok(Source {
         class: Name::from_str(alloc, "sys/Native")?,
         name: Name::from_str(alloc, "read")?,
-        desc: MethodDesc {
-            params: Seq::new(alloc),
-            result: Some(int_type()),
-        },
+        desc: gives_int(alloc),
         tag,
     })
 }
@@ -37,14 +24,9 @@ pub(crate) fn read_source(alloc: Global, tag: i32) -> Result<Source, AllocError>
 pub(crate) fn write_sink(alloc: Global) -> Result<Sink, AllocError>
     ensures { IfOk result (λ sink. sink ≡ built.write_sink) }
 {
-    let mut params = Seq::new(alloc);
-    params.push(int_type())?;
     Ok(Sink {
         class: Name::from_str(alloc, "sys/Native")?,
         name: Name::from_str(alloc, "write")?,
-        desc: MethodDesc {
-            params,
-            result: None,
-        },
+        desc: takes_int(alloc)?,
     })
 }

@@ -12,7 +12,7 @@ ghost use Rattle.source_sink.specs.Reads.{IsJson, members_in, list_at, text_at, 
 use crate::fault::ConfigFault;
 use crate::natives::{read_source, write_sink};
 use lists::Seq;
-use run_state::{Config, Sink, Source};
+use run_state::{Config, Listed, Sink, Source};
 use serde_json::Value;
 use serde_json::error::Category;
 use std::alloc::Global;
@@ -79,36 +79,36 @@ fn source_tag(entry: &Value) -> Option<i32>
 }
 
 /// The list of sources, of which at most one is built.
-fn sources(alloc: Global, list: &[Value]) -> Result<Seq<Source>, ConfigFault>
+fn sources(alloc: Global, list: &[Value]) -> Result<Listed<Source>, ConfigFault>
     ensures ok { IfOk result (AreSources (items_view list.now)) }
     ensures not_built { IsErrOf result ConfigFault.NotBuilt → (sources : List ASource) → AreSources (items_view list.now) sources → ⊥ }
 {
-    let mut sources = Seq::new(alloc);
     match list {
-        [] => Ok(sources),
+        [] => Ok(Listed::new(alloc)),
         [entry] => {
             let tag = source_tag(entry).ok_or(ConfigFault::NotBuilt)?;
+            let mut sources = Seq::new(alloc);
             sources.push(read_source(alloc, tag)?)?;
-            Ok(sources)
+            Ok(Listed::from_seq(sources))
         }
         _ => Err(ConfigFault::NotBuilt),
     }
 }
 
 /// The list of sinks, of which at most one is built.
-fn sinks(alloc: Global, list: &[Value]) -> Result<Seq<Sink>, ConfigFault>
+fn sinks(alloc: Global, list: &[Value]) -> Result<Listed<Sink>, ConfigFault>
     ensures ok { IfOk result (AreSinks (items_view list.now)) }
     ensures not_built { IsErrOf result ConfigFault.NotBuilt → (sinks : List ASink) → AreSinks (items_view list.now) sinks → ⊥ }
 {
-    let mut sinks = Seq::new(alloc);
     match list {
-        [] => Ok(sinks),
+        [] => Ok(Listed::new(alloc)),
         [entry] => {
             if !names_native(entry, 3, "write", "(I)V") {
                 return Err(ConfigFault::NotBuilt);
             }
+            let mut sinks = Seq::new(alloc);
             sinks.push(write_sink(alloc)?)?;
-            Ok(sinks)
+            Ok(Listed::from_seq(sinks))
         }
         _ => Err(ConfigFault::NotBuilt),
     }
