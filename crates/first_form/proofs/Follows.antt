@@ -2,7 +2,7 @@
 use Rattle.std.proofs.Common.{◌≡◌, ℕ, Bool, true, false, sym, subst}
 use Rattle.class_model.specs.declared.insn.Insn.{Insn}
 use Rattle.first_form.specs.declared.frame.IntFrame.{IntFrame}
-use Rattle.first_form.specs.declared.names.Names.{Names}
+use Rattle.profile_check.specs.declared.profile.Names.{Names}
 use Rattle.first_form.specs.Typing.{Types}
 use Rattle.first_form.specs.Stepping.{Follows}
 

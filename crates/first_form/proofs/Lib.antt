@@ -3,4 +3,4 @@ pub mod Running
 pub mod Naming
 pub mod Follows
 pub mod Single
-pub mod Classes
+pub mod FirstSets

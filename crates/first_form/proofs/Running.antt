@@ -3,7 +3,7 @@ use Rattle.std.proofs.Common.{◌≡◌, ◌∙◌, ℕ, ◌+◌, ◌<◌, ◌�
 use Rattle.std.proofs.lemmas.List.{drop_more, drop_all}
 use Rattle.class_model.specs.declared.insn.Insn.{Insn}
 use Rattle.first_form.specs.declared.frame.IntFrame.{IntFrame}
-use Rattle.first_form.specs.declared.names.Names.{Names}
+use Rattle.profile_check.specs.declared.profile.Names.{Names}
 use Rattle.first_form.specs.Typing.{Types, Runs}
 use Rattle.first_form.proofs.Rows.{types_same}
 

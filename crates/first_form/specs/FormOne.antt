@@ -9,9 +9,10 @@ use Rattle.class_model.specs.declared.class.MethodDef.{MethodDef}
 use Rattle.class_model.specs.declared.class.ClassDef.{ClassDef}
 use Rattle.class_limits.specs.Sizes.{code_size}
 use Rattle.first_form.specs.declared.frame.IntFrame.{IntFrame}
-use Rattle.first_form.specs.declared.names.Names.{Names}
-use Rattle.first_form.specs.declared.names.Names.TheVariants.{Source, Written}
-use Rattle.first_form.specs.Naming.{object_name, IsUserName}
+use Rattle.profile_check.specs.declared.profile.Names.{Names}
+use Rattle.profile_check.specs.declared.profile.Names.TheVariants.{Source, Written}
+use Rattle.small_base.specs.Members.{object_name}
+use Rattle.first_form.specs.Naming.{IsUserName}
 use Rattle.first_form.specs.Typing.{words_type, first_frame, Runs}
 
 -- the flags of such a class (JVMS 4.1): ACC_PUBLIC, ACC_SUPER, or both

@@ -1,15 +1,9 @@
 -- Which names a class of a user may have (JVMS 4.2.1, and this project's own rules). Units stand in decimal.
 use Rattle.std.specs.Prelude.{◌≡◌, ℕ, ◌≤◌, ◌==◌, ◌&&◌, ◌||◌, ◌⊎◌, not, nat_le, Bool, IsTrue, List, ◌++◌, length, drop, codes}
-use Rattle.std.specs.List.{slice_split, list_all}
+use Rattle.std.specs.List.{slice_split, list_all, Contains}
 use Rattle.lists.specs.Texts.{units_of}
 use Rattle.modified_utf8.specs.Text.{text_bytes}
-use Rattle.first_form.specs.Natives.{native_name}
-
-abbrev pub object_name : List ℕ
-object_name = units_of (codes "java/lang/Object")
-
-abbrev pub string_name : List ℕ
-string_name = units_of (codes "java/lang/String")
+use Rattle.small_base.specs.Base.{base_names}
 
 -- a unit that stands in a part of a class name: not NUL, '.', ';', '[' or a surrogate
 abbrev pub is_name_unit : ℕ → Bool
@@ -37,9 +31,9 @@ reserved_part = units_of (codes "$$PHOSPHOR")
 abbrev pub IsReserved : List ℕ → Type 0
 IsReserved name = HasAt reserved_front name 0 ⊎ ((place : ℕ) × HasAt reserved_part name place)
 
--- the name of a class of the small base
+-- the name of one of the classes of the small base
 abbrev pub IsBaseName : List ℕ → Type 0
-IsBaseName name = (name ≡ object_name) ⊎ (name ≡ string_name) ⊎ (name ≡ native_name)
+IsBaseName name = Contains base_names name
 
 -- the name of a user's class, with its bytes in a class file (JVMS 4.4.7)
 pub record IsUserName (name : List ℕ) : Type 0 where

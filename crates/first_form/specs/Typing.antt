@@ -14,12 +14,12 @@ use Rattle.class_model.specs.declared.insn.Insn.{Insn}
 use Rattle.class_model.specs.declared.insn.Insn.TheVariants.{PushInt, Load, Store, Stack, Bin, Invoke}
 use Rattle.class_model.specs.declared.types.MethodRef.{MethodRef}
 use Rattle.first_form.specs.declared.frame.IntFrame.{IntFrame}
-use Rattle.first_form.specs.declared.names.Names.{Names}
-use Rattle.first_form.specs.declared.names.Names.TheVariants.{Source, Written}
+use Rattle.profile_check.specs.declared.profile.Names.{Names}
+use Rattle.profile_check.specs.declared.profile.Names.TheVariants.{Source, Written}
 use Rattle.first_form.specs.declared.natives.Native.{Native}
 use Rattle.first_form.specs.declared.natives.Native.TheVariants.{Read, Write, Report}
 use Rattle.first_form.specs.Natives.{ref_of}
-use Rattle.first_form.specs.Naming.{string_name}
+use Rattle.small_base.specs.Members.{string_name}
 
 -- the operations of two ints that are instrumented so far
 abbrev pub IsFirstOp : BinOp → Type 0

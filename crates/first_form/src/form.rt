@@ -2,15 +2,16 @@
 
 ghost use Rattle.std.specs.Prelude.{◌≡◌, ◌≢◌, ◌≤◌, [], ◌∷◌, Some, ◌↔◌, IsTrue, IfOk, MatchOption};
 ghost use Rattle.class_model.specs.declared.class.CodeDef.{CodeDef};
-ghost use Rattle.first_form.specs.Naming.{object_name};
+ghost use Rattle.small_base.specs.Members.{object_name};
 ghost use Rattle.first_form.specs.Typing as typing;
 ghost use Rattle.first_form.specs.FormOne as spec;
 
-use crate::names::{Names, is_user_name};
+use crate::names::is_user_name;
 use crate::straight::is_straight;
 use class_limits::code_size;
 use class_model::{BaseType, ClassDef, CodeDef, JType, MethodDef, MethodDesc};
 use lists::Name;
+use profile_check::Names;
 use std::alloc::{AllocError, Global};
 
 /// The most bytes of code of a user's class.

@@ -1,4 +1,4 @@
-//! The names that classes have.
+//! The names that a user's classes may have.
 
 ghost use Rattle.std.specs.Prelude.{◌≡◌, ℕ, ◌<◌, ◌++◌, List, length, ◌↔◌, IsTrue};
 ghost use Rattle.std.specs.List.{list_all};
@@ -6,15 +6,7 @@ ghost use Rattle.first_form.specs.Naming as spec;
 
 use class_limits::text_size;
 use lists::Name;
-
-/// Whose names the classes of a set have.
-#[derive(Clone, Copy, Debug, PartialEq, Eq)]
-pub enum Names {
-    /// A user's. Names that are kept for written classes are refused.
-    Source,
-    /// Those of written classes.
-    Written,
-}
+use small_base::is_base_name;
 
 /// The most bytes of the name of a user's class.
 const MOST_NAME_BYTES: u64 = 16_000;
@@ -81,13 +73,6 @@ fn is_reserved(units: &[u16]) -> bool
     begins(units, &RESERVED_FRONT) || has_part(units, &RESERVED_PART)
 }
 
-/// Whether a class of the base has this name.
-fn is_base(name: &Name) -> bool
-    ensures { IsTrue result ↔ spec.IsBaseName name.now }
-{
-    name.is("java/lang/Object") || name.is("java/lang/String") || name.is("sys/Native")
-}
-
 /// Whether a class of a user may have this name.
 pub(crate) fn is_user_name(name: &Name) -> bool
     ensures { IsTrue result ↔ spec.IsUserName name.now }
@@ -96,5 +81,5 @@ pub(crate) fn is_user_name(name: &Name) -> bool
     text_size(units) <= MOST_NAME_BYTES
         && is_class_name(units)
         && !is_reserved(units)
-        && !is_base(name)
+        && !is_base_name(name)
 }

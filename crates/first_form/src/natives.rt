@@ -2,12 +2,13 @@
 
 ghost use Rattle.std.specs.Prelude.{◌≡◌, ◌≢◌, ◌↔◌, IsTrue, IfOk, MatchOption, replicate};
 ghost use Rattle.lists.specs.Texts.{units_of};
-ghost use Rattle.class_model.specs.declared.types.BaseType.TheVariants.{Class};
+ghost use Rattle.small_base.specs.Members.{int_type};
 ghost use Rattle.first_form.specs.declared.natives.Native as declared;
 ghost use Rattle.first_form.specs.Natives as spec;
 
-use class_model::{BaseType, JType, MethodDesc, MethodRef, Primitive};
+use class_model::{BaseType, JType, MethodDesc, MethodRef};
 use lists::{Name, Seq};
+use small_base::{does_give_int, does_take_int, gives_int, int_type, is_class, is_int, takes_int};
 use std::alloc::{AllocError, Global};
 
 /// A native that straight-line code calls.
@@ -42,19 +43,10 @@ fn name_of(native: Native) -> &'static str
     }
 }
 
-fn int_type() -> JType
-    ensures { result ≡ spec.int_type }
-{
-    JType {
-        depth: 0,
-        base: BaseType::Primitive(Primitive::Int),
-    }
-}
-
 /// So many ints, as the types of parameters.
 #[tactic(auto, using(std::proofs::lemmas::List::replicate_more))]
 fn ints(alloc: Global, count: usize) -> Result<Seq<JType>, AllocError>
-    ensures { IfOk result (λ types. types ≡ replicate count spec.int_type) }
+    ensures { IfOk result (λ types. types ≡ replicate count int_type) }
 {
     let mut types = Seq::new(alloc);
     for _ in 0..count {
@@ -68,14 +60,8 @@ pub(crate) fn native_desc(alloc: Global, native: Native) -> Result<MethodDesc, A
     ensures { IfOk result (λ desc. desc ≡ spec.desc_of native) }
 {
     match native {
-        Native::Read => Ok(MethodDesc {
-            params: Seq::new(alloc),
-            result: Some(int_type()),
-        }),
-        Native::Write => Ok(MethodDesc {
-            params: ints(alloc, 1)?,
-            result: None,
-        }),
+        Native::Read => Ok(gives_int(alloc)),
+        Native::Write => takes_int(alloc),
         Native::Report => Ok(MethodDesc {
             params: ints(alloc, 3)?,
             result: None,
@@ -98,43 +84,6 @@ pub fn native_ref(alloc: Global, native: Native) -> Result<MethodRef, AllocError
     })
 }
 
-/// Whether a type is `int`.
-fn is_int(ty: &JType) -> bool
-    ensures { IsTrue result ↔ (ty.now ≡ spec.int_type) }
-{
-    ty.depth == 0 && matches!(ty.base, BaseType::Primitive(Primitive::Int))
-}
-
-/// Whether a type is the class of this name.
-fn is_class(ty: &JType, name: &str) -> bool
-    ensures { IsTrue result ↔ (ty.now ≡ record { depth = 0; base = Class (units_of name.now) }) }
-{
-    match &ty.base {
-        BaseType::Class(class) => ty.depth == 0 && class.is(name),
-        BaseType::Primitive(_) => false,
-    }
-}
-
-/// Whether a descriptor is `()I`.
-fn gives_int(desc: &MethodDesc) -> bool
-    ensures { IsTrue result ↔ (desc.now ≡ spec.gives_int) }
-{
-    match &desc.result {
-        Some(result) => is_int(result) && desc.params.is_empty(),
-        None => false,
-    }
-}
-
-/// Whether a descriptor is `(I)V`.
-fn takes_int(desc: &MethodDesc) -> bool
-    ensures { IsTrue result ↔ (desc.now ≡ spec.takes_int) }
-{
-    match desc.params.as_slice() {
-        [param] => is_int(param) && desc.result.is_none(),
-        _ => false,
-    }
-}
-
 /// Whether a descriptor is `(III)V`.
 fn takes_three(desc: &MethodDesc) -> bool
     ensures { IsTrue result ↔ (desc.now ≡ spec.takes_three) }
@@ -152,8 +101,8 @@ fn is_desc_of(desc: &MethodDesc, native: Native) -> bool
     ensures { IsTrue result ↔ (desc.now ≡ spec.desc_of native) }
 {
     match native {
-        Native::Read => gives_int(desc),
-        Native::Write => takes_int(desc),
+        Native::Read => does_give_int(desc),
+        Native::Write => does_take_int(desc),
         Native::Report => takes_three(desc),
     }
 }

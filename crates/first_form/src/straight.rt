@@ -8,9 +8,9 @@ ghost use Rattle.first_form.specs.Stepping.{Follows};
 ghost use Rattle.first_form.specs.FormOne.{IsStraight};
 
 use crate::frame::{IntFrame, first_frame};
-use crate::names::Names;
 use crate::natives::{Native, native_of};
 use class_model::{BinOp, CodeDef, Insn, InvokeKind, Kind, MethodRef, StackOp, VType, Width};
+use profile_check::Names;
 use std::alloc::{AllocError, Global};
 
 /// What an instruction is judged by besides the frame before it.

@@ -1,19 +1,18 @@
-//! The small base, the natives, and the names that a class may have.
+//! The natives, the names that a class may have, and the sets that are built.
+
+ghost use Rattle.std.specs.Prelude.{IfOk};
+ghost use Rattle.first_form.specs.FirstSet.{HasObject};
 
 use super::*;
 use class_model::{BaseType, ClassDef, CodeDef, Insn, JType, MethodDef, MethodDesc};
 use lists::{Name, Seq};
+use profile_check::Names;
+use small_base::small_base;
 use std::alloc::{AllocError, Global};
 use std::test::Fail;
 
 #[test]
-fn classes_beside_a_folder(rt: HostRuntime) -> Result<(), Fail> {
-    let base = small_base(rt.alloc())?;
-    let names = ["java/lang/Object", "java/lang/String", "sys/Native"];
-    assert_eq!(rt; base.len(), names.len());
-    for (class, name) in base.iter().zip(names) {
-        assert!(rt; class.name.is(name), "{name}");
-    }
+fn class_of_reports(rt: HostRuntime) -> Result<(), Fail> {
     let reports = report_class(rt.alloc())?;
     assert!(rt; reports.name.is("phosphor/Report"));
     Ok(())
@@ -81,6 +80,7 @@ fn names_of_users(rt: HostRuntime) -> Result<(), Fail> {
         ("phosphor/A", false),
         ("a$$PHOSPHOR", false),
         ("sys/Native", false),
+        ("java/lang/Error", false),
     ];
     for (name, holds) in rows {
         let class = class_of_name(rt.alloc(), name)?;
@@ -89,5 +89,32 @@ fn names_of_users(rt: HostRuntime) -> Result<(), Fail> {
         let written = is_form_one(rt.alloc(), &class, Names::Written)?;
         assert!(rt; written, "{name}");
     }
+    Ok(())
+}
+
+/// Classes with the small base behind them.
+fn with_base(alloc: Global, mut classes: Vec<ClassDef>) -> Result<Vec<ClassDef>, AllocError>
+    ensures { IfOk result (λ set. HasObject set.items) }
+{
+    classes.append(&mut small_base(alloc)?)?;
+    Ok(classes)
+}
+
+/// What is told of classes of these names before the small base.
+fn told_of(alloc: Global, names: &[&str]) -> Result<Option<u32>, AllocError> {
+    let mut classes = Vec::new(alloc);
+    for name in names {
+        classes.push(class_of_name(alloc, name)?)?;
+    }
+    first_not_built(alloc, &with_base(alloc, classes)?)
+}
+
+#[test]
+fn first_class_not_built(rt: HostRuntime) -> Result<(), Fail> {
+    assert_eq!(rt; told_of(rt.alloc(), &[])?, None);
+    assert_eq!(rt; told_of(rt.alloc(), &["A"])?, None);
+    assert_eq!(rt; told_of(rt.alloc(), &["phosphor/A"])?, Some(0));
+    assert_eq!(rt; told_of(rt.alloc(), &["A", "B"])?, Some(1));
+    assert_eq!(rt; told_of(rt.alloc(), &["java/lang/Object", "B"])?, Some(0));
     Ok(())
 }

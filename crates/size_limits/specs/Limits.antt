@@ -10,7 +10,7 @@ use Rattle.size_limits.specs.declared.limit.LimitKind.{LimitKind}
 use Rattle.size_limits.specs.declared.limit.LimitKind.TheVariants.{TextTooLong, MembersTooMany, PoolFull, ParamsTooMany, LocalsTooMany, StackTooDeep, CodeTooLong}
 use Rattle.size_limits.specs.declared.limit.ClassLimit.{ClassLimit}
 use Rattle.size_limits.specs.declared.limit.LimitStop.{LimitStop}
-use Rattle.size_limits.specs.declared.limit.LimitStop.TheVariants.{Limit, Memory}
+use Rattle.size_limits.specs.declared.limit.LimitStop.TheVariants.{Limit, NotBuilt, Memory}
 use Rattle.size_limits.specs.Weights.{code_weight}
 use Rattle.size_limits.specs.Numbers.{text_number, members_number, parameters_number, in_code, locals_number, stack_number}
 use Rattle.size_limits.specs.Pool.{pool_number}
@@ -70,3 +70,9 @@ abbrev pub Tells : Result Unit LimitStop → Option LimitStop → Type 0
 Tells (Ok done) first = first ≡ None
 Tells (Err Memory) first = Unit {0}
 Tells (Err stop) first = first ≡ Some stop
+
+-- a refusal that is no class that is not built yet
+abbrev pub IsOfSize : LimitStop → Type 0
+IsOfSize (Limit kind class method number) = Unit {0}
+IsOfSize (NotBuilt class) = ⊥
+IsOfSize Memory = Unit {0}

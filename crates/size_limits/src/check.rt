@@ -1,6 +1,6 @@
 //! The first number of size that passes its bound.
 
-ghost use Rattle.std.specs.Prelude.{◌≡◌, ◌≤◌, ◌<◌, ◌^◌, length, Some, IfOk};
+ghost use Rattle.std.specs.Prelude.{◌≡◌, ◌≤◌, ◌<◌, ◌^◌, length, Some, IfOk, IfErr};
 ghost use Rattle.size_limits.specs.Limits as limits;
 
 use crate::limit::{ClassLimit, LimitKind, LimitStop};
@@ -158,7 +158,8 @@ fn class_limit(
 #[tactic(auto, unfolding(crate::specs::Limits::first_limit), using(crate::proofs::First::none_yet, crate::proofs::First::none_more, crate::proofs::First::none_in_all))]
 pub fn check_limits(alloc: Global, classes: &[ClassDef], config: &Config) -> Result<(), LimitStop>
     requires { length classes.now ≤ 1001000 }
-    ensures { limits.Tells result (limits.first_limit config.now classes.now) }
+    ensures tells { limits.Tells result (limits.first_limit config.now classes.now) }
+    ensures of_size { IfErr result limits.IsOfSize }
 {
     for (at, class) in classes.iter().enumerate() {
         if let Some(limit) = class_limit(alloc, config, class)? {

@@ -46,6 +46,11 @@ pub enum LimitStop {
         method: Option<u32>,
         number: u64,
     },
+    /// The class of this number is not built yet. The numbers of size are never told so.
+    #[error("class {class}: not built")]
+    NotBuilt {
+        class: u32,
+    },
     #[error("out of memory")]
     Memory,
 }

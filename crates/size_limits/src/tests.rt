@@ -1,9 +1,9 @@
 use crate::{LimitKind, LimitStop, check_limits, weight};
 use class_model::{
-    BaseType, ClassDef, CodeDef, Insn, JType, MethodDef, MethodDesc, Primitive, StackOp,
+    BaseType, ClassDef, CodeDef, FieldDef, Insn, JType, MethodDef, MethodDesc, Primitive, StackOp,
 };
 use lists::{Name, Seq};
-use run_state::Config;
+use run_state::{Config, Listed};
 use std::alloc::Global;
 use std::test::Fail;
 
@@ -62,8 +62,8 @@ fn class(alloc: Global, ints: u32, code: CodeDef) -> Result<ClassDef, Fail> {
 /// What is told of the one class.
 fn judged(alloc: Global, class: ClassDef) -> Result<Result<(), LimitStop>, Fail> {
     let config = Config {
-        sources: Seq::new(alloc),
-        sinks: Seq::new(alloc),
+        sources: Listed::new(alloc),
+        sinks: Listed::new(alloc),
     };
     let classes = vec![in alloc; class]?;
     if classes.len() > 1 {
@@ -72,13 +72,56 @@ fn judged(alloc: Global, class: ClassDef) -> Result<Result<(), LimitStop>, Fail>
     Ok(check_limits(alloc, classes.as_slice(), &config))
 }
 
-fn limit(kind: LimitKind, number: u64) -> Result<(), LimitStop> {
+/// A limit of the one method, or of the class itself.
+fn limit_at(kind: LimitKind, method: Option<u32>, number: u64) -> Result<(), LimitStop> {
     Err(LimitStop::Limit {
         kind,
         class: 0,
-        method: Some(0),
+        method,
         number,
     })
+}
+
+fn limit(kind: LimitKind, number: u64) -> Result<(), LimitStop> {
+    limit_at(kind, Some(0), number)
+}
+
+/// A class with so many int fields.
+fn with_fields(alloc: Global, count: u32) -> Result<ClassDef, Fail> {
+    let mut fields = Seq::new(alloc);
+    for _ in 0..count {
+        fields.push(FieldDef {
+            flags: 0,
+            name: Name::from_str(alloc, "x")?,
+            ty: JType {
+                depth: 0,
+                base: BaseType::Primitive(Primitive::Int),
+            },
+            constant: None,
+        })?;
+    }
+    let mut class = class(alloc, 0, pairs(alloc, 1)?)?;
+    class.fields = fields;
+    Ok(class)
+}
+
+/// A class with a name of so many letters.
+fn with_name(alloc: Global, letters: u32) -> Result<ClassDef, Fail> {
+    let mut name = String::new(alloc);
+    for _ in 0..letters {
+        name.push('F')?;
+    }
+    let mut class = class(alloc, 0, pairs(alloc, 1)?)?;
+    class.name = Name::from_str(alloc, name.as_str())?;
+    Ok(class)
+}
+
+/// A class whose method has these maxima.
+fn with_maxima(alloc: Global, max_locals: u16, max_stack: u16) -> Result<ClassDef, Fail> {
+    let mut code = pairs(alloc, 1)?;
+    code.max_locals = max_locals;
+    code.max_stack = max_stack;
+    class(alloc, 0, code)
 }
 
 #[test]
@@ -111,5 +154,57 @@ fn parameters_are_told_before_code(rt: HostRuntime) -> Result<(), Fail> {
     let alloc = rt.alloc();
     let both = class(alloc, 128, pairs(alloc, 7_263)?)?;
     assert_eq!(rt; judged(alloc, both)?, limit(LimitKind::ParamsTooMany, 256));
+    Ok(())
+}
+
+#[test]
+fn each_other_bound_of_a_class(rt: HostRuntime) -> Result<(), Fail> {
+    let alloc = rt.alloc();
+    let text = LimitKind::TextTooLong;
+    assert_eq!(rt; judged(alloc, with_name(alloc, 16_000)?)?, Ok(()));
+    assert_eq!(rt;
+        judged(alloc, with_name(alloc, 16_001)?)?,
+        limit_at(text, None, 16_001)
+    );
+    let pool = LimitKind::PoolFull;
+    assert_eq!(rt; judged(alloc, with_fields(alloc, 2_704)?)?, Ok(()));
+    assert_eq!(rt;
+        judged(alloc, with_fields(alloc, 2_705)?)?,
+        limit_at(pool, None, 65_548)
+    );
+    let members = LimitKind::MembersTooMany;
+    assert_eq!(rt;
+        judged(alloc, with_fields(alloc, 32_767)?)?,
+        limit_at(pool, None, 787_036)
+    );
+    assert_eq!(rt;
+        judged(alloc, with_fields(alloc, 32_768)?)?,
+        limit_at(members, None, 65_537)
+    );
+    Ok(())
+}
+
+#[test]
+fn each_other_bound_of_a_method(rt: HostRuntime) -> Result<(), Fail> {
+    let alloc = rt.alloc();
+    let code = LimitKind::CodeTooLong;
+    let locals = LimitKind::LocalsTooMany;
+    assert_eq!(rt;
+        judged(alloc, with_maxima(alloc, 32_763, 1)?)?,
+        limit(code, 1_048_597)
+    );
+    assert_eq!(rt;
+        judged(alloc, with_maxima(alloc, 32_764, 1)?)?,
+        limit(locals, 65_537)
+    );
+    let stack = LimitKind::StackTooDeep;
+    assert_eq!(rt;
+        judged(alloc, with_maxima(alloc, 0, 32_759)?)?,
+        limit(code, 262_245)
+    );
+    assert_eq!(rt;
+        judged(alloc, with_maxima(alloc, 0, 32_760)?)?,
+        limit(stack, 65_536)
+    );
     Ok(())
 }

@@ -1,5 +1,5 @@
 use Rattle.std.proofs.Common.{◌≡◌, replicate}
-use Rattle.first_form.specs.Natives.{int_type}
+use Rattle.small_base.specs.Members.{int_type}
 use Rattle.first_form.proofs.natives.ints.Given as goal
 
 -- so many ints are there

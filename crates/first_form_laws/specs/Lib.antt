@@ -1,0 +1,2 @@
+pub mod WrittenForm
+pub mod Loading
