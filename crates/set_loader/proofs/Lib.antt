@@ -1,2 +1,11 @@
 pub mod Reading
+pub mod Files
+pub mod Profiles
+pub mod Sets
+pub mod Methods
+pub mod Counts
+pub mod BaseProfile
+pub mod BaseShapes
+pub mod Bases
+pub mod Refusals
 pub mod Loading

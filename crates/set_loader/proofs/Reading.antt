@@ -1,9 +1,8 @@
 -- Bytes are a class file of one class, or have one first bad place.
 use Rattle.std.proofs.Common.{◌≡◌, ◌∙◌, ℕ, List, sym, ap}
-use Rattle.std.specs.Prelude.{Result, Ok, Err}
+use Rattle.std.specs.Prelude.{Result, Err}
 use Rattle.class_input.specs.Reading.{Fault}
 use Rattle.class_input.specs.declared.bad_class.BadKind.{BadKind}
-use Rattle.class_input.specs.declared.bad_class.BadClass.{BadClass}
 use Rattle.class_input.specs.declared.bad_class.BadClass.TheVariants as errors
 use Rattle.class_model.specs.declared.class.ClassDef.{ClassDef}
 use Rattle.class_file.proofs.ClassLaws.{is_only, one_of_two}

@@ -1,18 +1,28 @@
--- The set of classes that files are (this project's own), for the classes that are built so far.
-use Rattle.std.specs.Prelude.{◌≡◌, ◌≢◌, ℕ, ◌<◌, ◌≤◌, List, [], ◌∷◌, ◌++◌, length, slice_get, take, All, Some, ◌⊎◌, Err}
-use Rattle.std.specs.List.{AllZip, Contains}
+-- The set of classes that files are, and the first refusal of files that are none. This project's own.
+use Rattle.std.specs.Prelude.{◌≡◌, ℕ, ◌<◌, Bool, List, ◌++◌, slice_get, take, All, Some, Err, if◌then◌else◌}
+use Rattle.std.specs.List.{AllZip, list_any}
 use Rattle.class_input.specs.declared.bad_class.BadKind.{BadKind}
+use Rattle.class_model.specs.declared.class.MethodDef.{MethodDef}
 use Rattle.class_model.specs.declared.class.ClassDef.{ClassDef}
+use Rattle.class_model.specs.Descriptor.{method_descriptor}
 use Rattle.class_file.specs.ClassReading.{file}
 use Rattle.code_attribute.specs.CodeContentReading.{code_content}
 use Rattle.code_attribute.specs.WholeClass.{IsClassFile}
-use Rattle.first_form.specs.declared.names.Names.{Names}
-use Rattle.first_form.specs.declared.names.Names.TheVariants.{Source, Written}
-use Rattle.first_form.specs.FormOne.{FormOne}
-use Rattle.first_form.specs.Base.{small_base, report_class}
+use Rattle.profile_check.specs.declared.profile.Names.{Names}
+use Rattle.profile_check.specs.declared.profile.OutOfProfile.{OutOfProfile}
+use Rattle.profile_check.specs.Profile.{Profile, FirstProfile}
+use Rattle.small_base.specs.Members.{object_name}
+use Rattle.small_base.specs.Base.{small_base}
+use Rattle.set_lookups.specs.Above.{same_name}
+use Rattle.set_lookups.specs.declared.ids.MethodId.{MethodId}
+use Rattle.class_set.specs.declared.fault.SetFault.{SetFault}
+use Rattle.class_set.specs.Closed.{Closed}
+use Rattle.class_set.specs.Faults.{first_fault}
+use Rattle.type_rows.specs.declared.rule.VerifyRule.{VerifyRule}
+use Rattle.verifier.specs.WholeSet.{SetVerifies, FirstInSet}
 use Rattle.set_loader.specs.declared.file.File.{File}
 use Rattle.set_loader.specs.declared.stop.LoadStop.{LoadStop}
-use Rattle.set_loader.specs.declared.stop.LoadStop.TheVariants.{Bad, NotBuilt, Memory}
+use Rattle.set_loader.specs.declared.stop.LoadStop.TheVariants as stops
 
 -- bytes are no class file, with the first bad place and its kind
 abbrev pub IsBad : List ℕ → ℕ → BadKind → Type 0
@@ -22,34 +32,26 @@ IsBad bytes place kind = file code_content bytes ≡ Err (record { place = place
 abbrev pub IsFileOf : File → ClassDef → Type 0
 IsFileOf file class = IsClassFile file.bytes class
 
--- files of a user: at most one, with a class of the first form; the small base is added
-pub record LoadsSource (files : List File) (set : List ClassDef) : Type 0 where
+-- ---- the set of files
+
+-- a class is named `java/lang/Object`
+unfoldable pub has_object : List ClassDef → Bool
+has_object classes = list_any (λ class. same_name class.name object_name) classes
+
+-- the small base stands behind classes of which none is `java/lang/Object`
+unfoldable pub with_base : List ClassDef → List ClassDef
+with_base classes = if has_object classes then classes else classes ++ small_base
+
+-- The files are class files, and the set is their classes with the base. Each class of a file is in the profile, the set is closed, and each method with code verifies.
+pub record Loads (names : Names) (files : List File) (set : List ClassDef) : Type 0 where
   pub classes : List ClassDef
   pub read : AllZip IsFileOf files classes
-  pub at_most_one : length files ≤ 1
-  pub formed : All (FormOne Source) classes
-  pub base_added : set ≡ classes ++ small_base
+  pub in_profile : All (Profile names) classes
+  pub completed : set ≡ with_base classes
+  pub closed : Closed set
+  pub verified : SetVerifies set
 
--- the classes that stand beside those that were rewritten
-abbrev pub written_base : List ClassDef
-written_base = small_base ++ report_class ∷ []
-
--- no two classes have one name
-abbrev pub HaveOwnNames : List ClassDef → Type 0
-HaveOwnNames set = (i j : ℕ) (c d : ClassDef) → i < j → slice_get set i ≡ Some c → slice_get set j ≡ Some d → c.name ≢ d.name
-
--- written files: each with a class, those of the small base and of reports among them, and every other class of the first form
-pub record LoadsWritten (files : List File) (set : List ClassDef) : Type 0 where
-  pub read : AllZip IsFileOf files set
-  pub own_names : HaveOwnNames set
-  pub base_there : All (λ class. Contains set class) written_base
-  pub others_formed : All (λ class. Contains written_base class ⊎ FormOne Written class) set
-
-abbrev pub Loads : Names → List File → List ClassDef → Type 0
-Loads Source files set = LoadsSource files set
-Loads Written files set = LoadsWritten files set
-
--- ---- refusals of a user's files
+-- ---- refusals, judged in four passes, each over all files
 
 -- a file is a class file
 abbrev pub Decodes : File → Type 0
@@ -62,51 +64,70 @@ pub record IsFirstBad (files : List File) (number place : ℕ) (kind : BadKind) 
   pub earlier : All Decodes (take number files)
   pub bad : IsBad file.bytes place kind
 
--- the first class that is not of the first form, by its number
-pub record IsFirstOther (classes : List ClassDef) (number : ℕ) : Type 0 where
+-- the first class out of the profile, by its number, with the first row that refuses it
+pub record IsFirstOut (names : Names) (classes : List ClassDef) (number : ℕ) (fault : OutOfProfile) : Type 0 where
   pub class : ClassDef
   pub stands : slice_get classes number ≡ Some class
-  pub earlier : All (FormOne Source) (take number classes)
-  pub not_formed : FormOne Source class → ⊥
+  pub earlier : All (Profile names) (take number classes)
+  pub out : FirstProfile names class fault
 
--- each class is of the form, but there are two or more: the second is told
-pub record AreTooMany (classes : List ClassDef) (number : ℕ) : Type 0 where
-  pub formed : All (FormOne Source) classes
-  pub second : number ≡ 1
-  pub there : 1 < length classes
-
--- all files are class files, but one is not built
-pub record IsNotBuilt (files : List File) (number : ℕ) : Type 0 where
+-- all files are class files, and this is the first whose class is out of the profile
+pub record IsOut (names : Names) (files : List File) (number : ℕ) (fault : OutOfProfile) : Type 0 where
   pub classes : List ClassDef
   pub read : AllZip IsFileOf files classes
-  pub not_built : IsFirstOther classes number ⊎ AreTooMany classes number
+  pub first : IsFirstOut names classes number fault
+
+-- all files are class files, with classes in the profile, and this is the first fault of their set
+pub record IsFaulty (names : Names) (files : List File) (fault : SetFault) : Type 0 where
+  pub classes : List ClassDef
+  pub read : AllZip IsFileOf files classes
+  pub in_profile : All (Profile names) classes
+  pub first : first_fault (with_base classes) ≡ Some fault
+
+-- a method of a set has these names: of its class, its own, and the text of its descriptor
+pub record IsNamed (set : List ClassDef) (id : MethodId) (class name desc : List ℕ) : Type 0 where
+  pub owner : ClassDef
+  pub stands : slice_get set id.class ≡ Some owner
+  pub method : MethodDef
+  pub declared : slice_get owner.methods id.index ≡ Some method
+  pub class_is : class ≡ owner.name
+  pub name_is : name ≡ method.name
+  pub desc_is : desc ≡ method_descriptor method.desc
+
+-- the first method of a set that does not verify has these names, with the first instruction that fails and the first rule that fails there
+pub record IsFirstFailing (set : List ClassDef) (class name desc : List ℕ) (at : ℕ) (rule : VerifyRule) : Type 0 where
+  pub id : MethodId
+  pub first : FirstInSet set id at rule
+  pub named : IsNamed set id class name desc
+
+-- all files are class files, with classes in the profile, their set is closed, and this is its first method that does not verify
+pub record IsUnverified (names : Names) (files : List File) (class name desc : List ℕ) (at : ℕ) (rule : VerifyRule) : Type 0 where
+  pub classes : List ClassDef
+  pub read : AllZip IsFileOf files classes
+  pub in_profile : All (Profile names) classes
+  pub closed : Closed (with_base classes)
+  pub first : IsFirstFailing (with_base classes) class name desc at rule
 
 -- the refusal of files that do not load; want of memory may come with any
-abbrev pub Refuses : List File → LoadStop → Type 0
-Refuses files (Bad number place kind) = IsFirstBad files number place kind
-Refuses files (NotBuilt number) = IsNotBuilt files number
-Refuses files Memory = Unit {0}
+abbrev pub Refuses : Names → List File → LoadStop → Type 0
+Refuses names files (stops.Bad number place kind) = IsFirstBad files number place kind
+Refuses names files (stops.Profile number fault) = IsOut names files number fault
+Refuses names files (stops.Set fault) = IsFaulty names files fault
+Refuses names files (stops.Unverified class name desc at rule) = IsUnverified names files class name desc at rule
+Refuses names files stops.Memory = Unit {0}
 
 -- a refusal that depends on the files alone
 abbrev pub IsDue : LoadStop → Type 0
-IsDue (Bad number place kind) = Unit {0}
-IsDue (NotBuilt number) = Unit {0}
-IsDue Memory = ⊥
+IsDue (stops.Bad number place kind) = Unit {0}
+IsDue (stops.Profile number fault) = Unit {0}
+IsDue (stops.Set fault) = Unit {0}
+IsDue (stops.Unverified class name desc at rule) = Unit {0}
+IsDue stops.Memory = ⊥
 
--- the file that a refusal tells is one of so many
+-- the file that a refusal tells, if it tells one, is one of so many
 abbrev pub IsWithin : LoadStop → ℕ → Type 0
-IsWithin (Bad number place kind) count = number < count
-IsWithin (NotBuilt number) count = number < count
-IsWithin Memory count = Unit {0}
-
--- a file of this number is no class file; want of memory may come with any
-abbrev pub RefusesFile : ℕ → File → LoadStop → Type 0
-RefusesFile number file (Bad told place kind) = (told ≡ number) × IsBad file.bytes place kind
-RefusesFile number file (NotBuilt told) = ⊥
-RefusesFile number file Memory = Unit {0}
-
--- one of the files is no class file
-abbrev pub RefusesDecoding : List File → LoadStop → Type 0
-RefusesDecoding files (Bad number place kind) = IsFirstBad files number place kind
-RefusesDecoding files (NotBuilt number) = ⊥
-RefusesDecoding files Memory = Unit {0}
+IsWithin (stops.Bad number place kind) count = number < count
+IsWithin (stops.Profile number fault) count = number < count
+IsWithin (stops.Set fault) count = Unit {0}
+IsWithin (stops.Unverified class name desc at rule) count = Unit {0}
+IsWithin stops.Memory count = Unit {0}

@@ -1,85 +1,64 @@
 //! Loading the files of a folder.
 
-ghost use Rattle.std.specs.Prelude.{◌≡◌, ◌≤◌, List, length, All, IfOk, IfErr, MatchOption, MatchResult};
-ghost use Rattle.std.specs.List.{AllZip};
+ghost use Rattle.std.specs.Prelude.{◌≡◌, ◌≢◌, ◌≤◌, All, List, length, Err, IfOk, IfErr, MatchResult, ◌⊎◌};
 ghost use Rattle.class_model.specs.declared.class.ClassDef.{ClassDef};
-ghost use Rattle.first_form.specs.FormOne.{FormOne};
-ghost use Rattle.first_form.specs.FirstSet.{IsFirstSet};
-ghost use Rattle.first_form.specs.declared.names.Names.TheVariants as names;
-ghost use Rattle.set_loader.specs.Loads.{Loads, IsFileOf, IsFirstOther, Refuses, RefusesDecoding, RefusesFile};
-ghost use Rattle.set_loader.specs.declared.stop.LoadStop.TheVariants.{Memory};
+ghost use Rattle.class_shape.specs.Shaped.{Shaped};
+ghost use Rattle.profile_check.specs.Profile.{Profile};
+ghost use Rattle.set_lookups.specs.Counts.{AreCounted};
+ghost use Rattle.class_set.specs.declared.fault.SetFault.TheVariants as faults;
+ghost use Rattle.set_loader.specs.Loads.{Loads, IsDue, Refuses};
+ghost use Rattle.set_loader.specs.declared.stop.LoadStop as model;
+ghost use Rattle.set_loader.specs.declared.stop.LoadStop.TheVariants as stops;
 
+use crate::base::complete;
+use crate::decode::read_classes;
 use crate::file::File;
+use crate::profile::judge_profile;
+use crate::set::judge_set;
 use crate::stop::LoadStop;
-use class_codec::{BadClass, decode_class};
-use class_model::ClassDef;
-use first_form::{Names, is_form_one, small_base};
-use std::alloc::{AllocError, Global};
+use crate::types::judge_types;
+use profile_check::Names;
+use std::alloc::Global;
+use verifier::VerifiedSet;
 
-/// The class of a file of this number.
-fn class_of(alloc: Global, number: u32, file: &File) -> Result<ClassDef, LoadStop>
-    ensures { MatchResult result (IsFileOf file.now) (RefusesFile number file.now) }
-{
-    match decode_class(alloc, file.bytes.as_slice()) {
-        Ok(class) => Ok(class),
-        Err(BadClass::Bad { place, kind }) => Err(LoadStop::Bad {
-            file: number,
-            place,
-            kind,
-        }),
-        Err(BadClass::Memory) => Err(LoadStop::Memory),
-    }
-}
-
-/// The classes of files, one each.
-fn classes_of(alloc: Global, files: &[File]) -> Result<Vec<ClassDef>, LoadStop>
+/// The four passes, each over all files.
+fn judge(alloc: Global, files: &[File], names: Names) -> Result<VerifiedSet, LoadStop>
     requires { length files.now ≤ 1000000 }
-    ensures { MatchResult result (λ classes. AllZip IsFileOf files.now classes.items) (RefusesDecoding files.now) }
+    ensures answer { MatchResult result (Loads names files.now) (Refuses names files.now) }
+    ensures counted { IfOk result AreCounted }
+    ensures shaped { IfOk result (All Shaped) }
 {
-    let mut classes = Vec::new(alloc);
-    for (number, file) in files.iter().enumerate() {
-        let class = class_of(alloc, number as u32, file)?;
-        classes.push(class)?;
-    }
-    Ok(classes)
+    let classes = read_classes(alloc, files)?;
+    judge_profile(alloc, names, &classes)?;
+    let set = complete(alloc, classes)?;
+    let closed = judge_set(alloc, set)?;
+    judge_types(alloc, closed)
 }
 
-/// The number of the first class that is not of the first form.
-fn first_other(alloc: Global, classes: &[ClassDef]) -> Result<Option<u32>, AllocError>
-    requires { length classes.now ≤ 1000000 }
-    ensures { IfOk result (λ other. MatchOption other (All (FormOne names.Source) classes.now) (IsFirstOther classes.now)) }
-{
-    for (number, class) in classes.iter().enumerate() {
-        if !is_form_one(alloc, class, Names::Source)? {
-            return Ok(Some(number as u32));
-        }
-    }
-    Ok(None)
-}
-
-/// The set of classes that the files of a user are, where each of them is built: at most one class, and
-/// the small base behind it.
+/// The set of the classes that files are, in the order of the files, with the small base behind them where none is
+/// `java/lang/Object`.
 ///
-/// All files are decoded first. The first that is no class file is told, with its first bad place; else the first
-/// whose class is not of the first form, or the second file.
-pub fn load_set(alloc: Global, files: &[File]) -> Result<Vec<ClassDef>, LoadStop>
+/// All files are decoded first, then the class of each is judged by the profile, then the set of all, then the types of
+/// all methods. The first refusal is told: of each pass the first file, the first fault of the set, or the first method
+/// by class and file order.
+pub fn load_set(alloc: Global, files: &[File], names: Names) -> Result<VerifiedSet, LoadStop>
     requires { length files.now ≤ 1000000 }
     // What is loaded is what the files are.
-    ensures loaded { IfOk result (λ set. Loads names.Source files.now set.items) }
-    // It can be instrumented.
-    ensures first { IfOk result (λ set. IsFirstSet set.items) }
-    // A refusal is the one that is due.
-    ensures refused { IfErr result (Refuses files.now) }
+    ensures loaded { IfOk result (λ set. Loads names files.now set) }
+    // A refusal is one that is due.
+    ensures refused { IfErr result (Refuses names files.now) }
     // What the files are is loaded, unless memory runs out.
-    ensures whole { (set : List ClassDef) → Loads names.Source files.now set → MatchResult result (λ found. found.items ≡ set) (λ stop. stop ≡ Memory) }
+    ensures whole { (set : List ClassDef) → Loads names files.now set → MatchResult result (λ found. found ≡ set) (λ stop. stop ≡ stops.Memory) }
+    // A refusal that is due is the one that comes, unless memory runs out.
+    ensures due { (stop : model.LoadStop) → IsDue stop → Refuses names files.now stop → MatchResult result (λ _. ⊥) (λ told. (told ≡ stop) ⊎ (told ≡ stops.Memory)) }
+    // Want of memory is told in one way.
+    ensures told { result ≢ Err (stops.Set faults.Memory) }
+    // What is loaded has the counts that a set can have.
+    ensures counted { IfOk result AreCounted }
+    // Its classes have shapes that bytes give, the base too.
+    ensures shaped { IfOk result (All Shaped) }
+    // They are in the profile, the base too.
+    ensures in_profile { IfOk result (All (Profile names)) }
 {
-    let mut set = classes_of(alloc, files)?;
-    if let Some(file) = first_other(alloc, &set)? {
-        return Err(LoadStop::NotBuilt { file });
-    }
-    if set.len() > 1 {
-        return Err(LoadStop::NotBuilt { file: 1 });
-    }
-    set.append(&mut small_base(alloc)?)?;
-    Ok(set)
+    judge(alloc, files, names)
 }

@@ -1,7 +1,6 @@
-use Rattle.std.proofs.Common.{take}
 use Rattle.std.proofs.lemmas.Result.{err_from_is_err_and}
-use Rattle.set_loader.proofs.Loading.{one_more, refused_at}
-use Rattle.set_loader.proofs.load.classes_of.Goals as goal
+use Rattle.set_loader.proofs.Files.{one_more, refused_at}
+use Rattle.set_loader.proofs.decode.read_classes.Goals as goal
 
 pub returns-in_err-class : goal.returns-in_err-class
 returns-in_err-class c =
