@@ -1,15 +1,15 @@
 -- The classes of the written set are of the form again.
-use Rattle.std.proofs.Common.{◌≡◌, suc, Bool, true, false, List, [], ◌∷◌, refl, ap, arith}
+use Rattle.std.proofs.Common.{◌≡◌, ◌∙◌, ℕ, suc, ◌-◌, Bool, true, false, List, [], ◌∷◌, length, take, refl, ap, arith}
 use Rattle.std.specs.Prelude.{cond, map, All}
 use Rattle.std.proofs.lemmas.List.Elements.{All-cons}
 use Rattle.class_model.specs.declared.class.MethodDef.{MethodDef}
 use Rattle.class_model.specs.declared.class.ClassDef.{ClassDef}
-use Rattle.first_form.specs.declared.names.Names.TheVariants.{Source, Written}
+use Rattle.profile_check.specs.declared.profile.Names.TheVariants.{Source, Written}
 use Rattle.first_form.specs.FormOne.{FormOne}
-use Rattle.first_form.specs.Base.{small_base}
+use Rattle.small_base.specs.Base.{small_base}
 use Rattle.instrument_set.specs.declared.marks.Marks.{Marks}
 use Rattle.instrument_set.specs.Written.{written_code, written_method, written_class}
-use Rattle.instrument_set.specs.WrittenSet.{comes_before, insert_class, written_base, written_set}
+use Rattle.instrument_set.specs.WrittenSet.{comes_before, insert_class, written_base, with_written, written_set}
 use Rattle.instrument_set.proofs.Typed.{written_straight}
 
 -- the written class is of the form, with the names of written classes
@@ -45,6 +45,12 @@ pub all_inserted : (P : ClassDef → Type 0) (d : ClassDef) (ds : List ClassDef)
 all_inserted P d [] here rest = All-cons P d [] here (all_none P)
 all_inserted P d (e ∷ es) here rest = all_either P (comes_before d e) d e es (insert_class d es) here rest (all_inserted P d es here (all_rest P e es rest))
 
+pub take_none : (xs : List ClassDef) → take 0 xs ≡ []
+take_none [] = refl
+take_none (x ∷ xs) = refl
+
+-- the small base alone
 pub base_alone : (marks : Marks) → written_set marks small_base ≡ written_base
-unfolding small_base
-base_alone marks = refl
+base_alone marks =
+    let none : length small_base - length small_base ≡ 0 = omega arith in
+    ap (with_written marks) (ap (λ (n : ℕ). take n small_base) none ∙ take_none small_base)

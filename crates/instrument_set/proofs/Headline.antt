@@ -1,8 +1,8 @@
 -- The written set mirrors the original.
-use Rattle.std.proofs.Common.{◌≡◌, ◌≢◌, ℕ, zero, suc, ◌+◌, ◌*◌, ◌≤◌, ℤ, Bool, true, false, List, [], ◌∷◌, length, Some, None, refl, sym, ap, ◌∙◌, subst, inl, inr, ⊎_elim, get_or, arith}
-use Rattle.std.specs.Prelude.{◌⊎◌, cond, map, codes}
+use Rattle.std.proofs.Common.{◌≡◌, ◌≢◌, ℕ, zero, suc, ◌+◌, ◌*◌, ◌-◌, ◌≤◌, ℤ, Bool, true, false, List, [], ◌∷◌, length, take, Option, Some, None, refl, sym, ap, ◌∙◌, subst, inl, inr, ⊎_elim, arith}
+use Rattle.std.specs.Prelude.{◌⊎◌, ◌&&◌, cond, map, is_none}
+use Rattle.std.specs.List.{list_all}
 use Rattle.std.specs.Str.{chars}
-use Rattle.lists.specs.Texts.{units_of}
 use Rattle.class_model.specs.declared.class.CodeDef.{CodeDef}
 use Rattle.class_model.specs.declared.class.MethodDef.{MethodDef}
 use Rattle.class_model.specs.declared.class.ClassDef.{ClassDef}
@@ -14,20 +14,22 @@ use Rattle.run_state.specs.References.{given}
 use Rattle.run_state.specs.SetLooks.{class_named, method_of, method_where, is_main, main_of, looks_of}
 use Rattle.run_state.specs.Step.{run}
 use Rattle.run_state.specs.Observation.{HasMain, seen, start, plain_at, tagged_at, plain_obs, tagged_obs}
-use Rattle.first_form.specs.declared.names.Names.TheVariants.{Source}
-use Rattle.first_form.specs.Natives.{native_name, report_name}
-use Rattle.first_form.specs.Naming.{object_name, string_name}
+use Rattle.profile_check.specs.declared.profile.Names.TheVariants.{Source}
+use Rattle.small_base.specs.Members.{object_name, native_name}
 use Rattle.first_form.specs.FormOne.{main_method, FormOne}
-use Rattle.first_form.specs.Base.{object_class, string_class, native_class, small_base, report_class}
+use Rattle.small_base.specs.Base.{object_class, native_class, small_base}
+use Rattle.first_form.specs.Base.{report_class}
 use Rattle.first_form.specs.FirstSet.{IsFirstSet, IsFirstConfig}
 use Rattle.instrument_set.specs.declared.marks.Marks.{Marks}
 use Rattle.instrument_set.specs.Marking.{marks_of}
-use Rattle.instrument_set.specs.Written.{written_code, written_method, written_class, CanWriteClass}
-use Rattle.instrument_set.specs.WrittenSet.{comes_before, insert_class, written_base, written_set}
+use Rattle.instrument_set.specs.Written.{written_code, written_method, written_class}
+use Rattle.instrument_set.specs.WrittenSet.{comes_before, insert_class, written_base, with_written, written_set}
 use Rattle.instrument_set.specs.Mirrors.{Mirrors}
 use Rattle.instrument_set.proofs.Looking.{same_text_same, same_text_other, Found, natives_found, report_found, main_found, nothing_begins}
+use Rattle.instrument_set.proofs.Apart.{Others, not_report, form_apart, report_other, not_object, not_native, object_found, native_found}
+use Rattle.instrument_set.proofs.Formed.{take_none}
 use Rattle.instrument_set.proofs.Marked.{are_marks, main_is_quiet}
-use Rattle.instrument_set.proofs.Straight.{code_fine, class_fits}
+use Rattle.instrument_set.proofs.Straight.{code_fine}
 use Rattle.instrument_set.proofs.Sim.{Setting}
 use Rattle.instrument_set.proofs.Root.{main_areas, seen_first, seen_second, enters}
 use Rattle.instrument_set.proofs.Whole.{AreMains, main_mirrors}
@@ -67,34 +69,42 @@ length_inserted : (d : ClassDef) (ds : List ClassDef) → length (insert_class d
 length_inserted d [] = refl
 length_inserted d (e ∷ es) = length_either (comes_before d e) d e es (insert_class d es) (length_inserted d es)
 
--- ---- the names of the first form
-
-pub not_object : (class : ClassDef) → FormOne Source class → class.name ≢ object_name
-not_object class form = λ e. form.kept.named.no_base (inl e)
-
-pub not_string : (class : ClassDef) → FormOne Source class → class.name ≢ string_name
-not_string class form = λ e. form.kept.named.no_base (inr (inl e))
-
-pub not_native : (class : ClassDef) → FormOne Source class → class.name ≢ native_name
-not_native class form = λ e. form.kept.named.no_base (inr (inr e))
-
-pub not_report : (class : ClassDef) → FormOne Source class → class.name ≢ report_name
-unfolding chars
-not_report class form = λ e. form.kept.named.not_reserved (inl (units_of (codes "Report"), e))
+-- none of classes that are apart has the name
+none_named : (ds : List ClassDef) (name : List ℕ) → Others ds name → NoneNamed ds name
+none_named [] name others = tt
+none_named (d ∷ ds) name others = (same_text_other d.name name (λ e. others.0 (sym e)), none_named ds name others.1)
 
 -- ---- a set of one class
 
-no_main_named : (main : List ℕ) (a b c : Bool) → given (cond a (Some object_class) (cond b (Some string_class) (cond c (Some native_class) None))) None (method_where is_main) ≡ None
-unfolding chars
-no_main_named main true b c = refl
-no_main_named main false true c = refl
-no_main_named main false false true = refl
-no_main_named main false false false = refl
+-- a class without a `main`
+abbrev has_no_main : ClassDef → Bool
+has_no_main class = is_none (method_where is_main class)
+
+none_is : {A : Type 0} (o : Option A) → is_none o ≡ true → o ≡ None
+none_is None h = refl
+none_is (Some x) h = absurd cc
+
+and_both : (a b : Bool) → (a && b) ≡ true → (a ≡ true) × (b ≡ true)
+and_both true b h = (refl, h)
+and_both false b h = absurd cc
+
+main_either : (b : Bool) (d : ClassDef) (found : Option ClassDef) → method_where is_main d ≡ None → given found None (method_where is_main) ≡ None → given (cond b (Some d) found) None (method_where is_main) ≡ None
+main_either true d found here rest = here
+main_either false d found here rest = rest
+
+none_has_main : (main : List ℕ) (ds : List ClassDef) → list_all has_no_main ds ≡ true → given (class_named ds main) None (method_where is_main) ≡ None
+none_has_main main [] h = refl
+none_has_main main (d ∷ ds) h =
+    let both = and_both (has_no_main d) (list_all has_no_main ds) h in
+    main_either (same_text d.name main) d (class_named ds main) (none_is (method_where is_main d) both.0) (none_has_main main ds both.1)
 
 -- no class of the small base has a `main`
+base_has_no_main : list_all has_no_main small_base ≡ true
+unfolding small_base chars
+base_has_no_main = refl
+
 base_without_main : (main : List ℕ) → main_of small_base main ≡ None
-unfolding small_base
-base_without_main main = no_main_named main (same_text object_class.name main) (same_text string_class.name main) (same_text native_class.name main)
+base_without_main main = none_has_main main small_base base_has_no_main
 
 main_is_here : (class : ClassDef) (main : List ℕ) → HasMain (class ∷ small_base) main → main ≡ class.name
 main_is_here class main has =
@@ -102,6 +112,19 @@ main_is_here class main has =
     (λ same. sym (same_text_same class.name main same))
     (λ other. absurd (let q : None ≡ Some has.method = sym (base_without_main main) ∙ ap (λ (b : Bool). given (cond b (Some class) (class_named small_base main)) None (method_where is_main)) (sym other) ∙ has.found in cc))
     (either_way (same_text class.name main))
+
+-- ---- what is found beside a written class
+
+object_beside : Found written_base object_class
+unfolding chars report_class
+object_beside = found_inserted object_class report_class small_base refl object_found
+
+native_beside : Found written_base native_class
+unfolding chars report_class
+native_beside = found_inserted native_class report_class small_base refl native_found
+
+report_beside : Found written_base report_class
+report_beside = inserted_found report_class small_base (none_named small_base report_class.name report_other)
 
 module _ (config : Config) (first : IsFirstConfig config) (class : ClassDef) (form : FormOne Source class) where
   abbrev marks : Marks
@@ -123,43 +146,30 @@ module _ (config : Config) (first : IsFirstConfig config) (class : ClassDef) (fo
   base_found c other h = inr (same_text_other class.name c.name other, h)
 
   object_there : Found set object_class
-  unfolding small_base
-  object_there = base_found object_class (not_object class form) (inl refl)
+  object_there = base_found object_class (not_object class form) object_found
 
   native_there : Found set native_class
-  unfolding small_base chars
-  native_there = base_found native_class (not_native class form) (inr (refl, inr (refl, inl refl)))
+  native_there = base_found native_class (not_native class form) native_found
 
-  three : length set ≡ suc (suc 2)
+  count : length set ≡ suc (suc 20)
   unfolding small_base
-  three = refl
+  count = refl
 
   new_object_there : Found new_set object_class
-  new_object_there = found_inserted object_class new_class written_base (same_text_other class.name object_name (not_object class form)) (inl refl)
+  new_object_there = found_inserted object_class new_class written_base (same_text_other class.name object_name (not_object class form)) object_beside
 
   new_native_there : Found new_set native_class
-  unfolding chars report_class
-  new_native_there = found_inserted native_class new_class written_base (same_text_other class.name native_name (not_native class form)) (inr (refl, inr (refl, inr (refl, inl refl))))
+  new_native_there = found_inserted native_class new_class written_base (same_text_other class.name native_name (not_native class form)) native_beside
 
   new_report_there : Found new_set report_class
-  unfolding chars report_class
-  new_report_there = found_inserted report_class new_class written_base (same_text_other class.name report_name (not_report class form)) (inr (refl, inr (refl, inl refl)))
+  new_report_there = found_inserted report_class new_class written_base (same_text_other class.name report_class.name (not_report class form)) report_beside
 
   new_class_there : Found new_set new_class
-  unfolding report_class
-  new_class_there = inserted_found new_class written_base (
-    same_text_other object_name class.name (λ e. not_object class form (sym e)),
-    (
-      same_text_other string_name class.name (λ e. not_string class form (sym e)),
-      (
-        same_text_other report_name class.name (λ e. not_report class form (sym e)),
-        (same_text_other native_name class.name (λ e. not_native class form (sym e)), tt),
-      ),
-    ),
-  )
+  new_class_there = inserted_found new_class written_base (none_named written_base class.name (form_apart class form))
 
-  four : length new_set ≡ suc (suc 3)
-  four = length_inserted new_class written_base
+  new_count : length new_set ≡ suc (suc 21)
+  unfolding small_base
+  new_count = length_inserted new_class written_base ∙ ap suc (length_inserted report_class small_base)
 
   new_only : new_class.methods ≡ main_method new_code ∷ []
   new_only = ap (λ (ms : List MethodDef). map (written_method marks) ms) form.only_main
@@ -195,10 +205,10 @@ module _ (config : Config) (first : IsFirstConfig config) (class : ClassDef) (fo
   new_main = main_found new_set new_class new_code new_class_there new_only
 
   old_begins : (looks_of set class.name).starts class.name ≡ []
-  old_begins = nothing_begins set class form.code 2 three (inl refl) object_there form.header.super_name form.only_main
+  old_begins = nothing_begins set class form.code 20 count (inl refl) object_there form.header.super_name form.only_main
 
   new_begins : (looks_of new_set class.name).starts class.name ≡ []
-  new_begins = nothing_begins new_set new_class new_code 3 four new_class_there new_object_there form.header.super_name new_only
+  new_begins = nothing_begins new_set new_class new_code 21 new_count new_class_there new_object_there form.header.super_name new_only
 
   -- every number of steps of the original's main
   runs_mirror : (input : List ℕ) (n : ℕ) → (m : ℕ) × (n ≤ m)
@@ -217,9 +227,9 @@ module _ (config : Config) (first : IsFirstConfig config) (class : ClassDef) (fo
         ∙ sym (seen_second (tagged config) (looks_of set class.name) set input (method_of class (main_method form.code)) old_main old_begins),
   )
   runs_mirror input (suc (suc (suc turns))) =
-      let natives = natives_found set class.name 2 three native_there object_there in
-      let new_natives = natives_found new_set class.name 3 four new_native_there new_object_there in
-      let report = report_found new_set class.name 3 four new_report_there new_object_there in
+      let natives = natives_found set class.name 20 count native_there object_there in
+      let new_natives = natives_found new_set class.name 21 new_count new_native_there new_object_there in
+      let report = report_found new_set class.name 21 new_count new_report_there new_object_there in
       let a = main_mirrors setting are_mains natives new_natives report (are_marks config first) (code_fine form.code form.straight) input (main_areas (tagged config) (looks_of set class.name) set) turns in (
         suc (suc (suc a.0)),
         omega (arith, a.1),
@@ -247,9 +257,12 @@ base_mirrors config written = record {
   shows = λ main aside has input bytes n. absurd (let q : None ≡ Some has.method = sym (base_without_main main) ∙ has.found in cc);
 }
 
+-- the classes before the small base
+front_of_one : (class : ClassDef) (xs : List ClassDef) → take (length (class ∷ xs) - length xs) (class ∷ xs) ≡ class ∷ []
+front_of_one class xs = let one : length (class ∷ xs) - length xs ≡ 1 = omega arith in ap (λ (n : ℕ). take n (class ∷ xs)) one ∙ ap (λ (ys : List ClassDef). class ∷ ys) (take_none xs)
+
 pub written_one : (marks : Marks) (class : ClassDef) → written_set marks (class ∷ small_base) ≡ insert_class (written_class marks class) written_base
-unfolding small_base
-written_one lists class = refl
+written_one marks class = ap (with_written marks) (front_of_one class small_base)
 
 pub mirrors : (set : List ClassDef) (config : Config) → IsFirstSet set → IsFirstConfig config → Mirrors set config (written_set (marks_of config) set)
 mirrors set config first lists =
@@ -258,14 +271,4 @@ mirrors set config first lists =
     (λ (q : (class : ClassDef) × (set ≡ class ∷ small_base) × FormOne Source class).
     subst (λ (s : List ClassDef). Mirrors s config (written_set (marks_of config) s)) (sym q.1)
     (subst (λ (w : List ClassDef). Mirrors (q.0 ∷ small_base) config w) (sym (written_one (marks_of config) q.0)) (class_mirrors config lists q.0 q.2)))
-    first
-
--- the user's class can be written
-pub user_fits : (set : List ClassDef) (class : ClassDef) → IsFirstSet set → 4 ≤ length set → class ≡ get_or set 0 class → CanWriteClass class
-unfolding small_base
-user_fits set class first long is =
-    ⊎_elim
-    (λ (e : set ≡ small_base). absurd (let q = ap (λ (s : List ClassDef). length s) e in omega arith))
-    (λ (q : (class : ClassDef) × (set ≡ class ∷ small_base) × FormOne Source class).
-    subst CanWriteClass (sym (is ∙ ap (λ (s : List ClassDef). get_or s 0 class) q.1)) (class_fits q.0 q.2))
     first

@@ -8,12 +8,16 @@ pub mod Sim
 pub mod Root
 pub mod Whole
 pub mod Looking
+pub mod Apart
+pub mod Beside
 pub mod Straight
 pub mod Marked
 pub mod Headline
 pub mod Typed
 pub mod Formed
 pub mod Loaded
+pub mod Front
+pub mod Core
 pub mod Paths
 pub mod PathOrder
 pub mod Shape

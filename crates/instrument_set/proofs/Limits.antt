@@ -1,12 +1,13 @@
 -- No limit of the class file format is passed by the classes of the written set, that of the constant pool aside.
 use Rattle.std.proofs.Common.{◌≡◌, ◌∙◌, ℕ, zero, suc, ◌+◌, ◌*◌, ◌≤◌, ◌^◌, Bool, true, false, List, [], ◌∷◌, ◌++◌, length, Option, Some, None, refl, sym, ap, subst, ⊎_elim, arith, length-append}
-use Rattle.std.specs.Prelude.{◌⊎◌, ◌==◌, cond, codes, map, zip, All, nat_lt, option_map, option_and_then, option_to_list}
-use Rattle.std.specs.List.{find, flat_map}
+use Rattle.std.specs.Prelude.{◌⊎◌, ◌==◌, cond, codes, map, zip, All, nat_lt, is_none, option_map, option_and_then, option_to_list}
+use Rattle.std.specs.List.{find, flat_map, list_all}
 use Rattle.std.specs.Str.{chars}
 use Rattle.std.proofs.lemmas.Bool.{le-ltb}
 use Rattle.std.proofs.lemmas.Bool.Decides.{eqb_tells}
 use Rattle.std.proofs.lemmas.List.{append-nil}
-use Rattle.std.proofs.lemmas.List.Elements.{All-cons, All-nil, All-append, All-head, All-tail}
+use Rattle.std.proofs.lemmas.List.Elements.{All-cons, All-nil, All-append, All-head, All-tail, All-weaker}
+use Rattle.std.proofs.lemmas.List.Sums.{AllPass-from_list_all}
 use Rattle.lists.specs.Texts.{units_of}
 use Rattle.modified_utf8.specs.Text.{text_bytes, unit_bytes}
 use Rattle.class_model.specs.declared.types.JType.{JType}
@@ -35,19 +36,20 @@ use Rattle.class_limits.specs.Lengths as lengths
 use Rattle.class_limits.specs.Lengths.{class_lengths}
 use Rattle.class_limits.specs.Limits.{first, first_that, first_over, long_text, is_bad_size, bad_size, far_in_code, first_limit}
 use Rattle.class_encoding.specs.Encoding.{limit_of}
-use Rattle.instrument_set.proofs.PoolRoom.{PoolFits, form_fits, object_fits, string_fits, native_fits, report_fits}
+use Rattle.instrument_set.proofs.PoolRoom.{PoolFits, form_fits, thrown_fits, object_fits, string_fits, system_fits, native_fits, report_fits}
 use Rattle.run_state.specs.declared.config.Config.{Config}
 use Rattle.first_form.specs.declared.frame.IntFrame.{IntFrame}
-use Rattle.first_form.specs.declared.names.Names.{Names}
-use Rattle.first_form.specs.declared.names.Names.TheVariants.{Source, Written}
+use Rattle.profile_check.specs.declared.profile.Names.{Names}
+use Rattle.profile_check.specs.declared.profile.Names.TheVariants.{Source, Written}
 use Rattle.first_form.specs.declared.natives.Native.{Native}
 use Rattle.first_form.specs.declared.natives.Native.TheVariants.{Read, Write, Report}
-use Rattle.first_form.specs.Natives.{class_of, name_of, desc_of, ref_of, takes_int}
-use Rattle.first_form.specs.Naming.{object_name}
+use Rattle.small_base.specs.Members.{object_name, takes_int}
+use Rattle.first_form.specs.Natives.{class_of, name_of, desc_of, ref_of}
 use Rattle.first_form.specs.Typing.{Types, Runs, first_frame}
 use Rattle.first_form.specs.FormOne.{main_desc, main_method, IsStraight, FormOne}
 use Rattle.first_form.specs.FirstSet.{IsFirstSet}
-use Rattle.first_form.specs.Base.{init_method, value_field, native_method, object_class, string_class, native_class, report_class, small_base}
+use Rattle.small_base.specs.Base.{small_base}
+use Rattle.first_form.specs.Base.{report_class}
 use Rattle.instrument_set.specs.declared.marks.Marks.{Marks}
 use Rattle.instrument_set.specs.Marking.{marks_of}
 use Rattle.instrument_set.specs.Pieces.{call_piece, piece_of, pieces, after}
@@ -55,6 +57,7 @@ use Rattle.instrument_set.specs.Written.{cleared, written_code, written_method, 
 use Rattle.instrument_set.specs.WrittenSet.{written_base, written_set}
 use Rattle.instrument_set.proofs.Typed.{written_straight}
 use Rattle.instrument_set.proofs.Formed.{written_form, all_inserted, base_alone}
+use Rattle.instrument_set.proofs.Beside.{each_of_base}
 use Rattle.instrument_set.proofs.Headline.{written_one}
 
 -- ---- the first number that is over a bound
@@ -344,17 +347,22 @@ class_unlimited marks class form =
 
 -- ---- the classes beside it
 
-object_unlimited : first_limit object_class ≡ None
-unfolding chars field_descriptor method_descriptor first_limit long_text first_over bad_size code_size uses_wide_goto end_from size_at first far_in_code offsets_of offsets_from texts.class_texts texts.header_texts texts.member_texts texts.attribute_texts texts.name_texts counts.class_counts counts.header_counts counts.count_of lengths.class_lengths lengths.length_of lengths.lengths_if lengths.code_length
-object_unlimited = refl
+-- a test of it
+is_small_enough : ClassDef → Bool
+is_small_enough class = is_none (first_limit class)
 
-string_unlimited : first_limit string_class ≡ None
-unfolding chars field_descriptor method_descriptor first_limit long_text first_over bad_size code_size uses_wide_goto end_from size_at first far_in_code offsets_of offsets_from texts.class_texts texts.header_texts texts.member_texts texts.attribute_texts texts.name_texts counts.class_counts counts.header_counts counts.count_of lengths.class_lengths lengths.length_of lengths.lengths_if lengths.code_length
-string_unlimited = refl
+none_is : {A : Type 0} (o : Option A) → is_none o ≡ true → o ≡ None
+none_is None h = refl
+none_is (Some x) h = absurd cc
 
-native_unlimited : first_limit native_class ≡ None
-unfolding chars field_descriptor method_descriptor first_limit long_text first_over bad_size code_size uses_wide_goto end_from size_at first far_in_code offsets_of offsets_from texts.class_texts texts.header_texts texts.member_texts texts.attribute_texts texts.name_texts counts.class_counts counts.header_counts counts.count_of lengths.class_lengths lengths.length_of lengths.lengths_if lengths.code_length
-native_unlimited = refl
+base_small : list_all is_small_enough small_base ≡ true
+unfolding is_small_enough small_base chars field_descriptor method_descriptor first_limit long_text first_over bad_size code_size uses_wide_goto end_from size_at first far_in_code offsets_of offsets_from texts.class_texts texts.header_texts texts.member_texts texts.attribute_texts texts.name_texts counts.class_counts counts.header_counts counts.count_of lengths.class_lengths lengths.length_of lengths.lengths_if lengths.code_length
+base_small = refl
+
+small_base_unlimited : All (λ class. first_limit class ≡ None) small_base
+unfolding is_small_enough
+small_base_unlimited =
+    All-weaker (λ (class : ClassDef). is_small_enough class ≡ true) (λ (class : ClassDef). first_limit class ≡ None) (λ class h. none_is (first_limit class) h) small_base (AllPass-from_list_all is_small_enough small_base base_small)
 
 report_unlimited : first_limit report_class ≡ None
 unfolding chars field_descriptor method_descriptor first_limit long_text first_over bad_size code_size uses_wide_goto end_from size_at first far_in_code offsets_of offsets_from texts.class_texts texts.header_texts texts.member_texts texts.attribute_texts texts.name_texts counts.class_counts counts.header_counts counts.count_of lengths.class_lengths lengths.length_of lengths.lengths_if lengths.code_length report_class
@@ -369,12 +377,13 @@ unlimited : (class : ClassDef) → first_limit class ≡ None → PoolFits class
 unfolding limit_of
 unlimited class sizes pool = rw sizes pool
 
+base_fits : All PoolFits small_base
+base_fits = each_of_base PoolFits (λ name above h. thrown_fits name above) object_fits string_fits system_fits native_fits
+
 base_unlimited : All IsUnlimited written_base
 base_unlimited =
-    All-cons IsUnlimited object_class (string_class ∷ report_class ∷ native_class ∷ []) (unlimited object_class object_unlimited object_fits)
-    (All-cons IsUnlimited string_class (report_class ∷ native_class ∷ []) (unlimited string_class string_unlimited string_fits)
-    (All-cons IsUnlimited report_class (native_class ∷ []) (unlimited report_class report_unlimited report_fits)
-    (all_one IsUnlimited native_class (unlimited native_class native_unlimited native_fits))))
+    all_inserted IsUnlimited report_class small_base (unlimited report_class report_unlimited report_fits)
+    (λ k d l. unlimited _ (small_base_unlimited k d l) (base_fits k d l))
 
 pool_fits : (marks : Marks) (class : ClassDef) → FormOne Source class → PoolFits (written_class marks class)
 pool_fits marks class form =

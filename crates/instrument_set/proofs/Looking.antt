@@ -12,9 +12,10 @@ use Rattle.run_state.specs.Texts.{same_text}
 use Rattle.run_state.specs.Natives as native
 use Rattle.run_state.specs.References.{given}
 use Rattle.run_state.specs.SetLooks.{class_named, method_where, chain_of, superclasses, method_of, first_where, has_name_and_desc, initializers, is_initializer, is_main, main_of, looks_of}
-use Rattle.first_form.specs.Naming.{object_name}
+use Rattle.small_base.specs.Members.{object_name}
 use Rattle.first_form.specs.FormOne.{main_method}
-use Rattle.first_form.specs.Base.{object_class, native_class, report_class}
+use Rattle.small_base.specs.Base.{object_class, native_class}
+use Rattle.first_form.specs.Base.{report_class}
 use Rattle.instrument_set.specs.Pieces.{report_ref}
 use Rattle.instrument_set.proofs.Natives.{ref_of}
 use Rattle.instrument_set.proofs.Sim.{HasNatives, HasReport}

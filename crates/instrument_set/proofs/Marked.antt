@@ -15,7 +15,7 @@ use Rattle.run_state.specs.Numbers.{int_or}
 use Rattle.run_state.specs.Natives as native
 use Rattle.run_state.specs.Tags.{tagged, is_source, is_sink, marked_by, reported_by}
 use Rattle.run_state.specs.SetLooks.{method_of}
-use Rattle.first_form.specs.Natives.{native_name}
+use Rattle.small_base.specs.Members.{native_name}
 use Rattle.first_form.specs.FormOne.{main_method}
 use Rattle.first_form.specs.FirstSet.{read_source, write_sink, IsFirstConfig, IsShort}
 use Rattle.instrument_set.specs.Marking.{read_tag, is_listed, marks_of}

@@ -5,26 +5,23 @@ use Rattle.std.specs.List.{All, AllByRecursion, ends_with}
 use Rattle.std.specs.List.Sorted.{IsStrictlySortedBy}
 use Rattle.std.specs.Ordering.{nat_cmp, is_lt, ordering_reverse}
 use Rattle.std.specs.Cmp.Lexicographic.{slice_cmp, nat_list_cmp_total}
-use Rattle.std.specs.Str.{chars}
 use Rattle.std.specs.declared.cmp.Ordering.{Ordering}
 use Rattle.std.specs.declared.cmp.Ordering.TheVariants.{Less, Equal, Greater}
 use Rattle.std.proofs.lemmas.Bool.Decides.{Decides-eqb}
 use Rattle.std.proofs.lemmas.List.{append_cancel_right}
 use Rattle.std.proofs.lemmas.List.Elements.{All-from_recursion}
-use Rattle.std.proofs.Math.Utf8.{encode, encodes}
+use Rattle.std.proofs.Math.Utf8.{encodes}
 use Rattle.std.proofs.lemmas.Map.Lookups.{exact_bytes}
 use Rattle.std.proofs.lemmas.Str.{encodes_same}
 use Rattle.std.proofs.lemmas.Slice.Eq.{ends_is}
 use Rattle.class_model.specs.declared.class.ClassDef.{ClassDef}
-use Rattle.first_form.specs.declared.names.Names.TheVariants.{Source}
-use Rattle.first_form.specs.Natives.{native_name, report_name}
-use Rattle.first_form.specs.Naming.{object_name, string_name}
-use Rattle.first_form.specs.FormOne.{FormOne}
-use Rattle.first_form.specs.Base.{small_base, report_class}
+use Rattle.first_form.specs.Natives.{report_name}
+use Rattle.small_base.specs.Base.{small_base}
+use Rattle.first_form.specs.Base.{report_class}
 use Rattle.first_form.specs.FirstSet.{IsFirstSet}
 use Rattle.instrument_set.specs.WrittenSet.{path_of}
 use Rattle.instrument_set.specs.WrittenPaths.{insert_path, written_paths}
-use Rattle.instrument_set.proofs.Headline.{not_object, not_string, not_native, not_report}
+use Rattle.instrument_set.proofs.Apart.{Others, Apart, base_apart, report_other, form_other, not_report}
 
 abbrev in_order : List ℕ → List ℕ → Ordering
 in_order p q = slice_cmp nat_cmp p q
@@ -86,26 +83,31 @@ unfolding IsStrictlySortedBy
 ascend_inserted p [] apart ascend = (tt, tt)
 ascend_inserted p (q ∷ qs) apart ascend = ascend_either (is_lt (in_order p q)) p q qs refl apart.0 ascend (ascend_inserted p qs apart.1 ascend.1)
 
-base_ascends : Ascend (written_paths small_base)
-unfolding chars encode small_base report_class IsStrictlySortedBy
-base_ascends = ((refl, (refl, (refl, tt))), ((refl, (refl, tt)), ((refl, tt), (tt, tt))))
-
 other_path : (a b : List ℕ) → a ≢ b → path_of a ≢ path_of b
 other_path a b apart = λ same. apart (encodes_same a b (append_cancel_right (encodes a) (encodes b) (codes ".class") same))
 
-class_apart : (class : ClassDef) → FormOne Source class → AllByRecursion (λ q. path_of class.name ≢ q) (written_paths small_base)
-unfolding chars encode small_base report_class
-class_apart class form = (
-  other_path class.name object_name (not_object class form),
-  (
-    other_path class.name string_name (not_string class form),
-    (other_path class.name report_name (not_report class form), (other_path class.name native_name (not_native class form), tt)),
-  ),
-)
+-- a class that has another name than those of a set, and than that of the class of reports, has another path than they
+other_paths : (class : ClassDef) (set : List ClassDef) → class.name ≢ report_name → Others set class.name → AllByRecursion (λ q. path_of class.name ≢ q) (written_paths set)
+other_paths class [] report others = (other_path class.name report_name report, tt)
+other_paths class (c ∷ cs) report others =
+    inserted (λ q. path_of class.name ≢ q) (path_of c.name) (written_paths cs) (other_path class.name c.name others.0) (other_paths class cs report others.1)
+
+-- the paths of classes with names of their own ascend
+apart_ascend : (set : List ClassDef) → Apart set → Others set report_name → Ascend (written_paths set)
+unfolding IsStrictlySortedBy
+apart_ascend [] apart report = (tt, tt)
+apart_ascend (class ∷ classes) apart report =
+    ascend_inserted (path_of class.name) (written_paths classes) (other_paths class classes (λ e. report.0 (sym e)) apart.0) (apart_ascend classes apart.1 report.1)
+
+base_without_report : Others small_base report_name
+unfolding report_class
+base_without_report = report_other
 
 pub ascend : (set : List ClassDef) → IsFirstSet set → Ascend (written_paths set)
+unfolding report_class
 ascend set first =
     ⊎_elim
-    (λ e. subst (λ (s : List ClassDef). Ascend (written_paths s)) (sym e) base_ascends)
-    (λ q. subst (λ (s : List ClassDef). Ascend (written_paths s)) (sym q.1) (ascend_inserted (path_of q.0.name) (written_paths small_base) (class_apart q.0 q.2) base_ascends))
+    (λ e. subst (λ (s : List ClassDef). Ascend (written_paths s)) (sym e) (apart_ascend small_base base_apart base_without_report))
+    (λ q. subst (λ (s : List ClassDef). Ascend (written_paths s)) (sym q.1)
+    (apart_ascend (q.0 ∷ small_base) (form_other q.0 q.2, base_apart) ((λ e. not_report q.0 q.2 (sym e)), base_without_report)))
     first

@@ -7,15 +7,16 @@ use Rattle.std.proofs.Math.Utf8.{encode, encodes}
 use Rattle.std.proofs.lemmas.List.Sums.{AllPass-from_list_all}
 use Rattle.std.proofs.lemmas.List.{take_more, take_all, append-nil}
 use Rattle.std.proofs.lemmas.Bool.{eqb-true}
-use Rattle.std.proofs.lemmas.List.Elements.{All-cons, All-nil, All-weaker, All-from_recursion}
+use Rattle.std.proofs.lemmas.List.Elements.{All-weaker, All-from_recursion}
 use Rattle.std.proofs.lemmas.Str.{encodes-append}
 use Rattle.class_model.specs.declared.class.ClassDef.{ClassDef}
 use Rattle.run_state.specs.declared.config.Config.{Config}
-use Rattle.first_form.specs.declared.names.Names.TheVariants.{Source, Written}
+use Rattle.profile_check.specs.declared.profile.Names.TheVariants.{Source, Written}
 use Rattle.first_form.specs.Naming.{is_name_unit, is_name_part, is_class_name}
 use Rattle.first_form.specs.FormOne.{FormOne}
 use Rattle.first_form.specs.FirstSet.{IsFirstSet}
-use Rattle.first_form.specs.Base.{small_base, object_class, string_class, native_class, report_class}
+use Rattle.small_base.specs.Base.{small_base}
+use Rattle.first_form.specs.Base.{report_class}
 use Rattle.instrument_set.specs.declared.marks.Marks.{Marks}
 use Rattle.instrument_set.specs.Marking.{marks_of}
 use Rattle.instrument_set.specs.Written.{written_class}
@@ -105,13 +106,20 @@ form_plain class form =
     let parts = each_part (slice_split is_separator class.name) form.kept.named.class_name in
     All-from_recursion (λ (u : ℕ). is_surrogate u ≡ false) class.name (units_plain class.name parts)
 
-pub base_plain : All HasPlainName written_base
+is_plain_name : ClassDef → Bool
+is_plain_name class = list_all is_plain class.name
+
+pub small_base_plain : All HasPlainName small_base
+unfolding small_base chars is_plain_name
+small_base_plain =
+    All-weaker (λ (class : ClassDef). is_plain_name class ≡ true) HasPlainName (λ class h. list_plain class.name h) small_base (AllPass-from_list_all is_plain_name small_base refl)
+
+pub report_plain : HasPlainName report_class
 unfolding chars report_class
-base_plain =
-    All-cons HasPlainName object_class (string_class ∷ report_class ∷ native_class ∷ []) (list_plain object_class.name refl)
-    (All-cons HasPlainName string_class (report_class ∷ native_class ∷ []) (list_plain string_class.name refl)
-    (All-cons HasPlainName report_class (native_class ∷ []) (list_plain report_class.name refl)
-    (All-cons HasPlainName native_class [] (list_plain native_class.name refl) (All-nil HasPlainName))))
+report_plain = list_plain report_class.name refl
+
+pub base_plain : All HasPlainName written_base
+base_plain = all_inserted HasPlainName report_class small_base report_plain small_base_plain
 
 -- every class of the written set
 pub written_plain : (set : List ClassDef) (config : Config) → IsFirstSet set → All HasPlainName (written_set (marks_of config) set)
@@ -123,15 +131,4 @@ written_plain set config first =
     subst (λ (s : List ClassDef). All HasPlainName (written_set marks s)) (sym q.1)
     (subst (λ (w : List ClassDef). All HasPlainName w) (sym (written_one marks q.0))
     (all_inserted HasPlainName (written_class marks q.0) written_base (form_plain q.0 q.2) base_plain)))
-    first
-
--- the class before the small base, and so its written class
-pub user_plain : (set : List ClassDef) (class : ClassDef) (marks : Marks) → IsFirstSet set → 4 ≤ length set → class ≡ get_or set 0 class → HasPlainName (written_class marks class)
-unfolding small_base
-user_plain set class marks first many is =
-    ⊎_elim
-    (λ (e : set ≡ small_base). absurd (let q = ap (λ (s : List ClassDef). length s) e in omega (arith, q, many)))
-    (λ (q : (class : ClassDef) × (set ≡ class ∷ small_base) × FormOne Source class).
-    let same : class ≡ q.0 = is ∙ ap (λ (s : List ClassDef). get_or s 0 class) q.1 in
-    subst (λ (c : ClassDef). HasPlainName (written_class marks c)) (sym same) (form_plain q.0 q.2))
     first

@@ -4,9 +4,10 @@ use Rattle.std.specs.Prelude.{cond, map}
 use Rattle.std.specs.Str.{chars}
 use Rattle.std.proofs.Math.Utf8.{encode}
 use Rattle.class_model.specs.declared.class.ClassDef.{ClassDef}
-use Rattle.first_form.specs.declared.names.Names.TheVariants.{Source}
+use Rattle.profile_check.specs.declared.profile.Names.TheVariants.{Source}
 use Rattle.first_form.specs.FormOne.{FormOne}
-use Rattle.first_form.specs.Base.{small_base, report_class}
+use Rattle.small_base.specs.Base.{small_base}
+use Rattle.first_form.specs.Base.{report_class}
 use Rattle.first_form.specs.FirstSet.{IsFirstSet}
 use Rattle.instrument_set.specs.declared.marks.Marks.{Marks}
 use Rattle.instrument_set.specs.Written.{written_class}

@@ -34,12 +34,14 @@ use Rattle.code_spelling.specs.Tables.{spell_handler, spell_handlers}
 use Rattle.code_spelling.specs.Content.{spell_code_attributes, spell_content, spell_code}
 use Rattle.class_encoding.specs.Encoding.{pool_limit}
 use Rattle.first_form.specs.declared.frame.IntFrame.{IntFrame}
-use Rattle.first_form.specs.declared.names.Names.{Names}
-use Rattle.first_form.specs.declared.names.Names.TheVariants.{Written}
-use Rattle.first_form.specs.Natives.{gives_int, takes_int, takes_three}
+use Rattle.profile_check.specs.declared.profile.Names.{Names}
+use Rattle.profile_check.specs.declared.profile.Names.TheVariants.{Written}
+use Rattle.small_base.specs.Members.{gives_int, takes_int, takes_arrays, native_method, straight_code, init_method, init_ref, object_init, super_init, value_field}
+use Rattle.first_form.specs.Natives.{takes_three}
 use Rattle.first_form.specs.Typing.{Types, Runs, first_frame}
 use Rattle.first_form.specs.FormOne.{main_method, IsStraight, FormOne}
-use Rattle.first_form.specs.Base.{return_code, init_method, value_field, native_method, object_class, string_class, native_class, report_class}
+use Rattle.small_base.specs.Base.{object_class, string_class, system_class, native_class, thrown_class}
+use Rattle.first_form.specs.Base.{report_class}
 
 -- ---- instructions
 
@@ -296,11 +298,32 @@ form_fits class form code only straight few =
 native_room : (name : List ℕ) (desc : MethodDesc) → MethodHasRoom spell_code 3 (native_method name desc)
 native_room name desc = method_has_room spell_code 0 (native_method name desc) refl tt
 
-init_room : MethodHasRoom spell_code 9 init_method
+-- a constructor, by the room for its instructions
+constructor_room : (max_stack : ℕ) (insns : List Insn) → All (HasRoom (layout_of (straight_code max_stack insns))) insns → MethodHasRoom spell_code (3 + 6 * length insns) (init_method (straight_code max_stack insns))
+constructor_room max_stack insns rooms =
+    method_has_room spell_code (6 * length insns) (init_method (straight_code max_stack insns)) refl (content_room (straight_code max_stack insns) refl refl refl rooms)
+
+-- an instruction that names nothing
+nameless_room : (layout : CodeLayout) (insn : Insn) → index_of insn ≡ done 0 → HasRoom layout insn
+nameless_room layout insn none = indexed_room layout insn (subst (λ (index : Adding ℕ). Room 6 index) (sym none) (wider_room 0 6 (done 0) (omega arith) (done_room 0)))
+
+init_room : MethodHasRoom spell_code 9 object_init
+unfolding index_of
 init_room =
-    let layout = layout_of return_code in
-    method_has_room spell_code 6 init_method refl
-    (content_room return_code refl refl refl (runs_room layout Written 0 [] (first_frame 1) (first_frame 1) refl))
+    let layout = layout_of (straight_code 0 (Return None ∷ [])) in
+    constructor_room 0 (Return None ∷ []) (All-cons (HasRoom layout) (Return None) [] (nameless_room layout (Return None) refl) (All-nil (HasRoom layout)))
+
+abbrev super_insns : List ℕ → List Insn
+super_insns above = Load kind.Ref 0 ∷ Invoke invoke.Special (init_ref above) ∷ Return None ∷ []
+
+super_room_of : (above : List ℕ) → MethodHasRoom spell_code 21 (super_init above)
+unfolding index_of
+super_room_of above =
+    let layout = layout_of (straight_code 1 (super_insns above)) in
+    constructor_room 1 (super_insns above)
+    (All-cons (HasRoom layout) (Load kind.Ref 0) (Invoke invoke.Special (init_ref above) ∷ Return None ∷ []) (nameless_room layout (Load kind.Ref 0) refl)
+    (All-cons (HasRoom layout) (Invoke invoke.Special (init_ref above)) (Return None ∷ []) (indexed_room layout (Invoke invoke.Special (init_ref above)) (method_room (init_ref above)))
+    (All-cons (HasRoom layout) (Return None) [] (nameless_room layout (Return None) refl) (All-nil (HasRoom layout)))))
 
 abbrev pub PoolFits : ClassDef → Type 0
 PoolFits class = pool_limit (spell_class_file spell_code class) ≡ None
@@ -308,7 +331,20 @@ PoolFits class = pool_limit (spell_class_file spell_code class) ≡ None
 pub object_fits : PoolFits object_class
 object_fits =
     pool_fits spell_code 9 object_class
-    (record { no_interface = refl; no_source = refl; no_inner = refl; fields = All-nil FieldHasRoom; methods = All-cons (MethodHasRoom spell_code 9) init_method [] init_room (All-nil (MethodHasRoom spell_code 9)) }) (omega arith)
+    (record { no_interface = refl; no_source = refl; no_inner = refl; fields = All-nil FieldHasRoom; methods = All-cons (MethodHasRoom spell_code 9) object_init [] init_room (All-nil (MethodHasRoom spell_code 9)) }) (omega arith)
+
+pub thrown_fits : (name above : List ℕ) → PoolFits (thrown_class name above)
+thrown_fits name above =
+    pool_fits spell_code 21 (thrown_class name above)
+    (record { no_interface = refl; no_source = refl; no_inner = refl; fields = All-nil FieldHasRoom; methods = All-cons (MethodHasRoom spell_code 21) (super_init above) [] (super_room_of above) (All-nil (MethodHasRoom spell_code 21)) }) (omega arith)
+
+abbrev copy_method : MethodDef
+copy_method = native_method (units_of (codes "arraycopy")) takes_arrays
+
+pub system_fits : PoolFits system_class
+system_fits =
+    pool_fits spell_code 3 system_class
+    (record { no_interface = refl; no_source = refl; no_inner = refl; fields = All-nil FieldHasRoom; methods = All-cons (MethodHasRoom spell_code 3) copy_method [] (native_room copy_method.name takes_arrays) (All-nil (MethodHasRoom spell_code 3)) }) (omega arith)
 
 pub string_fits : PoolFits string_class
 string_fits =

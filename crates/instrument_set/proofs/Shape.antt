@@ -1,6 +1,6 @@
 -- The written classes can be written as class files, sizes aside.
 use Rattle.std.proofs.Common.{◌≡◌, ◌≢◌, ℕ, ◌+◌, Bool, true, false, List, [], ◌∷◌, ◌++◌, length, Option, None, refl, sym, ap, subst, ⊎_elim, arith}
-use Rattle.std.specs.Prelude.{◌⊎◌, ◌==◌, not, All, IfSome, codes, map}
+use Rattle.std.specs.Prelude.{◌⊎◌, ◌==◌, ◌&&◌, not, All, IfSome, codes, map}
 use Rattle.std.specs.List.{list_all}
 use Rattle.std.specs.Str.{chars}
 use Rattle.std.proofs.lemmas.List.Elements.{All-nil, All-cons, All-weaker}
@@ -25,21 +25,23 @@ use Rattle.class_shape.specs.ShapedInsn.{IsReferenceType, IsCall, IsTarget, Asce
 use Rattle.class_shape.specs.Shaped.{ShapedHandler, ShapedFrame, ShapedCode, ShapedField, ShapedMethod, SpellText, place_of, Shaped}
 use Rattle.run_state.specs.declared.config.Config.{Config}
 use Rattle.first_form.specs.declared.frame.IntFrame.{IntFrame}
-use Rattle.first_form.specs.declared.names.Names.{Names}
-use Rattle.first_form.specs.declared.names.Names.TheVariants.{Source, Written}
+use Rattle.profile_check.specs.declared.profile.Names.{Names}
+use Rattle.profile_check.specs.declared.profile.Names.TheVariants.{Source, Written}
 use Rattle.first_form.specs.declared.natives.Native.{Native}
 use Rattle.first_form.specs.declared.natives.Native.TheVariants.{Read, Write, Report}
-use Rattle.first_form.specs.Natives.{ref_of, int_type, native_name, report_name, gives_int, takes_int, takes_three}
-use Rattle.first_form.specs.Naming.{string_name}
+use Rattle.small_base.specs.Members.{int_type, class_type, object_name, string_name, native_name, takes_nothing, gives_int, takes_int, takes_arrays, native_method, straight_code, init_method, init_ref, object_init, super_init, value_field}
+use Rattle.first_form.specs.Natives.{ref_of, report_name, takes_three}
 use Rattle.first_form.specs.Typing.{words_type, Types, Runs, first_frame}
 use Rattle.first_form.specs.FormOne.{main_desc, main_method, IsStraight, FormOne}
-use Rattle.first_form.specs.Base.{small_base, return_code, init_method, value_field, native_method, object_class, string_class, native_class, report_class}
+use Rattle.small_base.specs.Base.{small_base, object_class, string_class, system_class, native_class, thrown_class}
+use Rattle.first_form.specs.Base.{report_class}
 use Rattle.first_form.specs.FirstSet.{IsFirstSet}
 use Rattle.instrument_set.specs.declared.marks.Marks.{Marks}
 use Rattle.instrument_set.specs.Marking.{marks_of}
 use Rattle.instrument_set.specs.Written.{written_class}
 use Rattle.instrument_set.specs.WrittenSet.{written_base, written_set}
 use Rattle.instrument_set.proofs.Formed.{written_form, all_inserted, base_alone}
+use Rattle.instrument_set.proofs.Beside.{is_written_name, each_of_base}
 use Rattle.instrument_set.proofs.Headline.{written_one}
 
 -- ---- names and types that are written out
@@ -52,6 +54,14 @@ other_unit end unit same h = λ e. absurd (let q = ap (λ (u : ℕ). u == end) e
 
 none_of : (end : ℕ) (name : List ℕ) → end == end ≡ true → list_all (is_other end) name ≡ true → All (λ (u : ℕ). u ≢ end) name
 none_of end name same h = All-weaker (λ (u : ℕ). is_other end u ≡ true) (λ (u : ℕ). u ≢ end) (λ u other. other_unit end u same other) name (AllPass-from_list_all (is_other end) name h)
+
+and_both : (a b : Bool) → (a && b) ≡ true → (a ≡ true) × (b ≡ true)
+and_both true b h = (refl, h)
+and_both false b h = absurd cc
+
+some_of : (name : List ℕ) → not (length name == 0) ≡ true → name ≢ []
+some_of [] h = absurd cc
+some_of (unit ∷ units) h = λ e. absurd cc
 
 native_name_is : IsClassName native_name
 unfolding chars
@@ -80,7 +90,7 @@ takes_is = record { params = all_one IsFieldType int_type int_field; result = tt
 three_is : IsMethodType takes_three
 three_is = record { params = All-cons IsFieldType int_type (int_type ∷ int_type ∷ []) int_field (All-cons IsFieldType int_type (int_type ∷ []) int_field (all_one IsFieldType int_type int_field)); result = tt }
 
-nothing_is : IsMethodType init_method.desc
+nothing_is : IsMethodType takes_nothing
 nothing_is = record { params = All-nil IsFieldType; result = tt }
 
 main_is : IsMethodType main_desc
@@ -132,17 +142,34 @@ form_shaped names class form = record {
 
 -- ---- the classes beside it
 
-return_shaped : ShapedCode return_code
-return_shaped = record {
-  insns = all_one (ShapedInsn 1) (Return None) tt;
-  handlers = All-nil (ShapedHandler 1);
-  frames = All-nil (ShapedFrame return_code.insns);
-  ascend = tt;
-  lines = All-nil (IsLine 1);
+-- code of a constructor: an instruction has a shape wherever it stands
+constructor_shaped : (max_stack : ℕ) (insns : List Insn) → All (ShapedInsn (length insns)) insns → ShapedMethod (init_method (straight_code max_stack insns))
+constructor_shaped max_stack insns shaped = record {
+  desc = nothing_is;
+  code = record { insns = shaped; handlers = All-nil (ShapedHandler (length insns)); frames = All-nil (ShapedFrame insns); ascend = tt; lines = All-nil (IsLine (length insns)) };
 }
 
-init_shaped : ShapedMethod init_method
-init_shaped = record { desc = nothing_is; code = return_shaped }
+object_init_shaped : ShapedMethod object_init
+object_init_shaped = constructor_shaped 0 (Return None ∷ []) (all_one (ShapedInsn 1) (Return None) tt)
+
+-- a name that code may hold
+written_name_is : (name : List ℕ) → is_written_name name ≡ true → IsClassName name
+written_name_is name h =
+    let both = and_both (not (length name == 0)) (list_all (is_other 59) name && list_all (is_other 91) name) h in
+    let rest = and_both (list_all (is_other 59) name) (list_all (is_other 91) name) both.1 in
+    record { some_unit = some_of name both.0; no_end = none_of 59 name refl rest.0; no_array = none_of 91 name refl rest.1 }
+
+init_call : (above : List ℕ) → is_written_name above ≡ true → IsCall invoke.Special (init_ref above)
+init_call above h = record { class = record { in_grammar = record { dimensions = omega arith; base = written_name_is above h }; no_primitive = refl }; desc = nothing_is; fits = tt }
+
+super_init_shaped : (above : List ℕ) → is_written_name above ≡ true → ShapedMethod (super_init above)
+super_init_shaped above h =
+    constructor_shaped 1 (Load kind.Ref 0 ∷ Invoke invoke.Special (init_ref above) ∷ Return None ∷ [])
+    (All-cons (ShapedInsn 3) (Load kind.Ref 0) (Invoke invoke.Special (init_ref above) ∷ Return None ∷ []) tt
+    (All-cons (ShapedInsn 3) (Invoke invoke.Special (init_ref above)) (Return None ∷ []) (init_call above h) (all_one (ShapedInsn 3) (Return None) tt)))
+
+thrown_shaped : (name above : List ℕ) → is_written_name above ≡ true → Shaped (thrown_class name above)
+thrown_shaped name above h = record { fields = All-nil ShapedField; methods = all_one ShapedMethod (super_init above) (super_init_shaped above h); source = tt }
 
 native_shaped : (name : List ℕ) (desc : MethodDesc) → IsMethodType desc → ShapedMethod (native_method name desc)
 native_shaped name desc is = record { desc = is; code = tt }
@@ -151,7 +178,7 @@ value_shaped : ShapedField value_field
 value_shaped = record { dimensions = omega arith; base = tt }
 
 object_shaped : Shaped object_class
-object_shaped = record { fields = All-nil ShapedField; methods = all_one ShapedMethod init_method init_shaped; source = tt }
+object_shaped = record { fields = All-nil ShapedField; methods = all_one ShapedMethod object_init object_init_shaped; source = tt }
 
 string_shaped : Shaped string_class
 string_shaped = record { fields = all_one ShapedField value_field value_shaped; methods = All-nil ShapedMethod; source = tt }
@@ -182,12 +209,31 @@ report_shaped : Shaped report_class
 unfolding report_class
 report_shaped = record { fields = All-nil ShapedField; methods = all_one ShapedMethod tag_method (native_shaped tag_method.name takes_three three_is); source = tt }
 
+object_name_is : IsClassName object_name
+unfolding chars
+object_name_is = record { some_unit = λ e. absurd cc; no_end = none_of 59 object_name refl refl; no_array = none_of 91 object_name refl refl }
+
+object_field : IsFieldType (class_type object_name)
+object_field = record { dimensions = omega arith; base = object_name_is }
+
+arrays_is : IsMethodType takes_arrays
+arrays_is = record {
+  params =
+      All-cons IsFieldType (class_type object_name) (int_type ∷ class_type object_name ∷ int_type ∷ int_type ∷ []) object_field
+      (All-cons IsFieldType int_type (class_type object_name ∷ int_type ∷ int_type ∷ []) int_field
+      (All-cons IsFieldType (class_type object_name) (int_type ∷ int_type ∷ []) object_field
+      (All-cons IsFieldType int_type (int_type ∷ []) int_field (all_one IsFieldType int_type int_field))));
+  result = tt;
+}
+
+abbrev copy_method : MethodDef
+copy_method = native_method (units_of (codes "arraycopy")) takes_arrays
+
+system_shaped : Shaped system_class
+system_shaped = record { fields = All-nil ShapedField; methods = all_one ShapedMethod copy_method (native_shaped copy_method.name takes_arrays arrays_is); source = tt }
+
 base_shaped : All Shaped written_base
-base_shaped =
-    All-cons Shaped object_class (string_class ∷ report_class ∷ native_class ∷ []) object_shaped
-    (All-cons Shaped string_class (report_class ∷ native_class ∷ []) string_shaped
-    (All-cons Shaped report_class (native_class ∷ []) report_shaped
-    (all_one Shaped native_class natives_shaped)))
+base_shaped = all_inserted Shaped report_class small_base report_shaped (each_of_base Shaped thrown_shaped object_shaped string_shaped system_shaped natives_shaped)
 
 -- every class of the written set
 pub written_shaped : (set : List ClassDef) (config : Config) → IsFirstSet set → All Shaped (written_set (marks_of config) set)

@@ -19,7 +19,7 @@ use Rattle.class_model.specs.declared.insn.Insn.{Insn}
 use Rattle.class_model.specs.declared.insn.Insn.TheVariants.{PushInt, Load, Store, Stack, Bin, Return, Invoke}
 use Rattle.run_state.specs.Natives as machine
 use Rattle.first_form.specs.declared.frame.IntFrame.{IntFrame}
-use Rattle.first_form.specs.declared.names.Names.TheVariants.{Source}
+use Rattle.profile_check.specs.declared.profile.Names.TheVariants.{Source}
 use Rattle.first_form.specs.declared.natives.Native.{Native}
 use Rattle.first_form.specs.declared.natives.Native.TheVariants.{Read, Write, Report}
 use Rattle.first_form.specs.Natives as form

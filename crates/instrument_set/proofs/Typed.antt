@@ -16,7 +16,7 @@ use Rattle.class_model.specs.declared.insn.BinOp.TheVariants as operation
 use Rattle.class_model.specs.declared.insn.Insn.{Insn}
 use Rattle.class_model.specs.declared.insn.Insn.TheVariants.{PushInt, Load, Store, Stack, Bin, Return, Invoke}
 use Rattle.first_form.specs.declared.frame.IntFrame.{IntFrame}
-use Rattle.first_form.specs.declared.names.Names.TheVariants.{Source, Written}
+use Rattle.profile_check.specs.declared.profile.Names.TheVariants.{Source, Written}
 use Rattle.first_form.specs.declared.natives.Native.{Native}
 use Rattle.first_form.specs.declared.natives.Native.TheVariants.{Read, Write, Report}
 use Rattle.first_form.specs.Natives as form

@@ -1,7 +1,7 @@
 -- What written classes do, against what the tagged machine does with the original classes. This project's own.
 use Rattle.std.specs.Prelude.{◌≡◌, ◌≢◌, ℕ, ◌<◌, ◌≤◌, List, All}
 use Rattle.class_model.specs.declared.class.ClassDef.{ClassDef}
-use Rattle.first_form.specs.declared.names.Names.TheVariants as names
+use Rattle.profile_check.specs.declared.profile.Names.TheVariants as names
 use Rattle.set_loader.specs.declared.file.File.{File}
 use Rattle.set_loader.specs.Loads.{Loads}
 use Rattle.run_state.specs.declared.config.Config.{Config}

@@ -1,10 +1,11 @@
 -- The written set of a set of the first form, in the order of its paths. This project's own.
-use Rattle.std.specs.Prelude.{◌≡◌, ℕ, ◌&&◌, nat_le, Bool, false, List, [], ◌∷◌, ◌++◌, All, codes, if◌then◌else◌}
+use Rattle.std.specs.Prelude.{◌≡◌, ℕ, ◌-◌, ◌&&◌, nat_le, Bool, false, List, [], ◌∷◌, ◌++◌, length, take, All, codes, if◌then◌else◌}
 use Rattle.std.proofs.Math.Utf8.{encodes}
 use Rattle.std.specs.Ordering.{nat_cmp, is_lt}
 use Rattle.std.specs.Cmp.Lexicographic.{slice_cmp}
 use Rattle.class_model.specs.declared.class.ClassDef.{ClassDef}
-use Rattle.first_form.specs.Base.{object_class, string_class, native_class, report_class}
+use Rattle.small_base.specs.Base.{small_base}
+use Rattle.first_form.specs.Base.{report_class}
 use Rattle.instrument_set.specs.declared.marks.Marks.{Marks}
 use Rattle.instrument_set.specs.Written.{written_class}
 
@@ -31,9 +32,13 @@ insert_class c (d ∷ ds) = if comes_before c d then c ∷ d ∷ ds else d ∷ i
 
 -- what stands beside a written class: the small base as it stands, and the class of reports
 abbrev pub written_base : List ClassDef
-written_base = object_class ∷ string_class ∷ report_class ∷ native_class ∷ []
+written_base = insert_class report_class small_base
 
--- the written class of the one before the small base, where there is one
+-- the written set of the classes before the small base: at most one, which is written
+abbrev pub with_written : Marks → List ClassDef → List ClassDef
+with_written marks [] = written_base
+with_written marks (class ∷ classes) = insert_class (written_class marks class) written_base
+
+-- the written set of a set that ends with the small base
 abbrev pub written_set : Marks → List ClassDef → List ClassDef
-written_set marks (class ∷ object ∷ string ∷ native ∷ []) = insert_class (written_class marks class) written_base
-written_set marks set = written_base
+written_set marks set = with_written marks (take (length set - length small_base) set)

@@ -1,8 +1,9 @@
 //! The written set of a set of the first form.
 
-ghost use Rattle.std.specs.Prelude.{◌≡◌, ◌≤◌, List, length, insert, map, All, IfOk};
+ghost use Rattle.std.specs.Prelude.{◌≡◌, ◌≤◌, List, length, insert, map, All, IfOk, OnOk, IfSome, slice_get};
 ghost use Rattle.std.specs.List.{AllZip};
-ghost use Rattle.first_form.specs.declared.names.Names.TheVariants as names;
+ghost use Rattle.profile_check.specs.declared.profile.Names.TheVariants as names;
+ghost use Rattle.first_form.specs.FormOne.{FormOne};
 ghost use Rattle.first_form.specs.FirstSet.{IsFirstSet, IsFirstConfig};
 ghost use Rattle.set_loader.specs.declared.file.File.{File};
 ghost use Rattle.set_loader.specs.Loads.{IsFileOf, Loads};
@@ -15,8 +16,9 @@ use crate::class_path::comes_before;
 use crate::marks::Marks;
 use crate::rewrite::rewrite_class;
 use class_model::ClassDef;
-use first_form::{report_class, small_base};
+use first_form::report_class;
 use run_state::Config;
+use small_base::{before_base, small_base};
 use std::alloc::{AllocError, Global};
 
 /// What the lists say of `read` and `write`.
@@ -48,14 +50,43 @@ fn place_of(alloc: Global, class: &ClassDef, classes: &[ClassDef]) -> Result<usi
     Ok(classes.len())
 }
 
+/// Puts a class among classes in the order of their paths.
+fn put_class(alloc: Global, class: ClassDef, classes: &mut Vec<ClassDef>) -> Result<(), AllocError>
+    requires plain { spec.IsPlain class.name }
+    requires others_plain { All (λ other. spec.IsPlain other.name) classes.old.items }
+    ensures { OnOk result (classes.new.items ≡ spec.insert_class class classes.old.items) }
+{
+    let at = place_of(alloc, &class, classes)?;
+    classes.insert(at, class)?;
+    Ok(())
+}
+
 /// The classes that stand beside the written class of a user.
-#[tactic(auto, unfolding(first_form::specs::Base::small_base))]
 fn written_base(alloc: Global) -> Result<Vec<ClassDef>, AllocError>
     ensures { IfOk result (λ classes. classes.items ≡ spec.written_base) }
 {
     let mut classes = small_base(alloc)?;
-    classes.insert(2, report_class(alloc)?)?;
+    put_class(alloc, report_class(alloc)?, &mut classes)?;
     Ok(classes)
+}
+
+/// The written set of the classes before the small base.
+fn with_written(
+    alloc: Global,
+    classes: &[ClassDef],
+    marks: Marks,
+) -> Result<Vec<ClassDef>, AllocError>
+    requires { IfSome (slice_get classes.now 0) (FormOne names.Source) }
+    ensures { IfOk result (λ written. written.items ≡ spec.with_written marks classes.now) }
+{
+    match classes {
+        [class, ..] => {
+            let mut written = written_base(alloc)?;
+            put_class(alloc, rewrite_class(alloc, class, marks)?, &mut written)?;
+            Ok(written)
+        }
+        [] => written_base(alloc),
+    }
 }
 
 /// The written set of a set.
@@ -63,13 +94,10 @@ fn written_set(alloc: Global, set: &[ClassDef], marks: Marks) -> Result<Vec<Clas
     requires { IsFirstSet set.now }
     ensures { IfOk result (λ written. written.items ≡ spec.written_set marks set.now) }
 {
-    let mut classes = written_base(alloc)?;
-    if let [class, _, _, _] = set {
-        let written = rewrite_class(alloc, class, marks)?;
-        let at = place_of(alloc, &written, &classes)?;
-        classes.insert(at, written)?;
+    match before_base(set) {
+        Some(classes) => with_written(alloc, classes, marks),
+        None => unreachable!(),
     }
-    Ok(classes)
 }
 
 /// The written set of a set: the small base as it stands, the class of reports, and the written class of

@@ -2,8 +2,8 @@ use Rattle.std.specs.Prelude.{map}
 use Rattle.std.specs.List.{AllZip}
 use Rattle.std.proofs.Common.{List, subst, sym, ap, ◌∙◌}
 use Rattle.class_model.specs.declared.class.ClassDef.{ClassDef}
-use Rattle.first_form.specs.declared.names.Names.TheVariants.{Written}
 use Rattle.set_loader.specs.declared.file.File.{File}
+use Rattle.profile_check.specs.declared.profile.Names.TheVariants.{Written}
 use Rattle.set_loader.specs.Loads.{IsFileOf, Loads}
 use Rattle.instrument_set.specs.declared.marks.Marks.{Marks}
 use Rattle.instrument_set.specs.Marking.{marks_of}

@@ -1,17 +1,17 @@
-use Rattle.std.proofs.Common.{◌∙◌, sym, subst, arith}
-use Rattle.std.proofs.lemmas.List.Elements.{All-same}
+use Rattle.std.proofs.Common.{◌≡◌, List, subst}
+use Rattle.std.specs.Prelude.{IfOk}
 use Rattle.class_model.specs.declared.class.ClassDef.{ClassDef}
-use Rattle.instrument_set.specs.WrittenSet.{written_base}
-use Rattle.instrument_set.proofs.Headline.{user_fits}
-use Rattle.instrument_set.proofs.PathText.{HasPlainName, user_plain, base_plain}
+use Rattle.first_form.proofs.FirstSets.{other_end}
+use Rattle.instrument_set.proofs.Front.{front_formed, front_written}
 use Rattle.instrument_set.proofs.set.written_set.Goals as goal
 
-pub rewrite_class-requires : goal.rewrite_class-requires
-rewrite_class-requires c = user_fits c.args.set.now c.class-item.result c.requires (omega arith) c.class-item.is
+pub unreachable-requires : goal.unreachable-requires
+unreachable-requires c = other_end c.args.set.now c.in-None.ensures c.requires
 
-pub place_of-requires-clause-plain : goal.place_of-requires-clause-plain
-place_of-requires-clause-plain c =
-    subst HasPlainName (sym c.in_ok-written.ensures) (user_plain c.args.set.now c.class-item.result c.args.marks c.requires (omega arith) c.class-item.is)
+pub with_written-requires : goal.with_written-requires
+with_written-requires c = front_formed c.in-Some.classes.now c.args.set.now c.in-Some.ensures c.requires
 
-pub place_of-requires-clause-others_plain : goal.place_of-requires-clause-others_plain
-place_of-requires-clause-others_plain c = All-same HasPlainName c.deref.result.now written_base (c.deref.ensures.value ∙ c.in_ok-classes.ensures) base_plain
+pub returns : goal.returns
+returns c =
+    subst (λ (classes : List ClassDef). IfOk c.with_written.result (λ written. written.items ≡ classes))
+    (front_written c.args.marks c.in-Some.classes.now c.args.set.now c.in-Some.ensures) c.with_written.ensures
