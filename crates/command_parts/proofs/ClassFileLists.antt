@@ -12,7 +12,7 @@ use Rattle.command_parts.specs.Folders.{below, HasFew, HasMany, HasFile, Refuses
 use Rattle.command_parts.specs.Looks.{Looked}
 use Rattle.set_loader.specs.declared.file.File.{File}
 use Rattle.command_parts.specs.declared.stop.Stop.{Stop}
-use Rattle.command_parts.specs.declared.stop.Stop.TheVariants.{Usage, ListFault, ReadFault, WriteFault, TooManyFiles, FileTooLong, NotLoaded, ConfigNotBuilt, NoFile, NotEmpty, Memory}
+use Rattle.command_parts.specs.declared.stop.Stop.TheVariants.{ListFault, ReadFault, TooManyFiles, FileTooLong, NoFile, NotEmpty, Memory}
 
 -- the class files of these paths were read
 pub record ReadSoFar (files : Files) (dir : List ℕ) (classes : List (List ℕ)) (list : List File) : Type 0 where
@@ -76,17 +76,10 @@ few_classes dir paths classes are few = omega (arith, ap length are, length-filt
 
 pub list_stops : (told : Option Files) (dir : List ℕ) (stop : Stop) → IfSome told (λ files. RefusesList files dir stop) → IfSome told (λ files. RefusesClassFiles files dir stop)
 list_stops None dir stop h = tt
-list_stops (Some files) dir Usage h = h
 list_stops (Some files) dir (ListFault at) h = h
-list_stops (Some files) dir (ReadFault path) h = absurd h
-list_stops (Some files) dir (WriteFault path) h = h
 list_stops (Some files) dir (TooManyFiles at) h = h
-list_stops (Some files) dir (FileTooLong path) h = absurd h
-list_stops (Some files) dir (NotLoaded line) h = h
-list_stops (Some files) dir ConfigNotBuilt h = h
-list_stops (Some files) dir (NoFile path) h = h
-list_stops (Some files) dir (NotEmpty at) h = h
 list_stops (Some files) dir Memory h = h
+list_stops (Some files) dir _ h = absurd h
 
 some_is_not_none : (found : Option (List ℕ)) → IsSome found → found ≡ None → ⊥
 some_is_not_none None some none = cc
@@ -104,11 +97,7 @@ pub read_stops : (told : Option Files) (dir : List ℕ) (paths classes : List (L
     → IfSome told (λ files. HasFew files dir paths) → IfSome told (λ files. ReadSoFar files dir (take i classes) list)
     → IfSome told (λ files. RefusesRead files (below dir path) path stop) → IfSome told (λ files. RefusesClassFiles files dir stop)
 read_stops None dir paths classes i path list stop are within is few so h = tt
-read_stops (Some files) dir paths classes i path list Usage are within is few so h = h
-read_stops (Some files) dir paths classes i path list (ListFault at) are within is few so h = absurd h
 read_stops (Some files) dir paths classes i path list (ReadFault at) are within is few so h = h
-read_stops (Some files) dir paths classes i path list (WriteFault at) are within is few so h = h
-read_stops (Some files) dir paths classes i path list (TooManyFiles at) are within is few so h = absurd h
 read_stops (Some files) dir paths classes i path list (FileTooLong whole) are within is few so h = record {
   paths = paths;
   few = few;
@@ -122,11 +111,9 @@ read_stops (Some files) dir paths classes i path list (FileTooLong whole) are wi
   named = h.0;
   long = subst (λ (w : List ℕ). IsLong files w) (sym h.0) h.1;
 }
-read_stops (Some files) dir paths classes i path list (NotLoaded line) are within is few so h = h
-read_stops (Some files) dir paths classes i path list ConfigNotBuilt are within is few so h = h
 read_stops (Some files) dir paths classes i path list (NoFile at) are within is few so h = absurd (some_is_not_none (get files (below dir path)) (is_there files dir paths classes i path are within is few.all) h.1)
-read_stops (Some files) dir paths classes i path list (NotEmpty at) are within is few so h = h
 read_stops (Some files) dir paths classes i path list Memory are within is few so h = h
+read_stops (Some files) dir paths classes i path list _ are within is few so h = absurd h
 
 -- a folder of which a path is listed holds a file
 full : (files : Files) (dir : List ℕ) (paths : List (List ℕ)) → AreBelow dir files paths → 0 < length paths → HasFile files dir

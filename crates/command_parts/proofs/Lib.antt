@@ -1,3 +1,4 @@
 pub mod ClassFileLists
 pub mod Fronts
 pub mod WrittenFiles
+pub mod Said

@@ -1,4 +1,5 @@
 pub mod Lines
+pub mod Kinds
 pub mod LoadLines
 pub mod Stops
 pub mod Told

@@ -1,16 +1,29 @@
--- What standard error gets.
-use Rattle.std.specs.Prelude.{◌≡◌, ℕ, List, ◌++◌, ◌≤◌, ◌⊎◌, Bool, Option, Some, None, ⊤}
+-- What standard error and standard output get.
+use Rattle.std.specs.Prelude.{◌≡◌, ℕ, List, ◌++◌, take, ◌≤◌, ◌⊎◌, Bool, Option, Some, None, Result, Ok, Err, ⊤}
 use Rattle.std.specs.Bool.{MatchBool}
 use Rattle.outside_io.specs.Causes.{Rose}
 use Rattle.command_parts.specs.Lines.{list_fault_line, read_fault_line, write_fault_line}
 use Rattle.command_parts.specs.Stops.{status_of, line_of}
 use Rattle.command_parts.specs.declared.stop.Stop.{Stop}
+use Rattle.command_parts.specs.declared.stop.Stop.TheVariants.{OutputFault}
 
 -- a sink that tells what it holds has just this text more
 abbrev pub Took : Option (List ℕ) → Option (List ℕ) → List ℕ → Type 0
 Took None new text = ⊤
 Took (Some old) None text = ⊥
 Took (Some old) (Some new) text = new ≡ old ++ text
+
+-- a sink that tells what it holds has just a front of this text more, perhaps none of it
+abbrev pub TookFront : Option (List ℕ) → Option (List ℕ) → List ℕ → Type 0
+TookFront None new text = ⊤
+TookFront (Some old) None text = ⊥
+TookFront (Some old) (Some new) text = (count : ℕ) × (new ≡ old ++ take count text)
+
+-- standard output has this text, or its count of faults, r and then s, rose and it has a front of the text
+abbrev pub Puts : Option (List ℕ) → Option (List ℕ) → (r s : ℕ) → List ℕ → Result (Unit {0}) Stop → Type 0
+Puts old new r s text (Ok done) = Took old new text
+Puts old new r s text (Err OutputFault) = TookFront old new text × Rose r s
+Puts old new r s text (Err _) = ⊥
 
 -- a text was written whole, or the count of faults, r and then s, rose
 abbrev pub Says : Option (List ℕ) → Option (List ℕ) → (r s : ℕ) → List ℕ → Bool → Type 0

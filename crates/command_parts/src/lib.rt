@@ -2,6 +2,7 @@
 //! the line that a command leaves where it stops.
 #![tactic(auto)]
 
+mod kinds;
 mod laws;
 mod lines;
 mod load_lines;
@@ -11,9 +12,12 @@ mod stop;
 mod write;
 
 pub use laws::written_class_files;
-pub use lines::tell;
+pub use lines::{put, tell};
 pub use load_lines::load_line;
 pub use look::{read_named, see_empty};
 pub use reading::class_files;
 pub use stop::Stop;
 pub use write::{placed, write_files};
+
+#[cfg(test)]
+mod tests;

@@ -3,7 +3,7 @@
 ghost use Rattle.std.specs.Prelude.{◌≡◌};
 ghost use Rattle.command_parts.specs.declared.stop.Stop.TheVariants.{Memory};
 
-use lists::{Bytes, Path};
+use lists::{Bytes, Name, Path};
 use std::alloc::{AllocError, AllocFailed};
 
 /// Why a command ended before its work was done, with what its line names. A path is whole in a
@@ -18,6 +18,8 @@ pub enum Stop {
     ReadFault(Path),
     /// A file could not be written.
     WriteFault(Path),
+    /// Standard output did not take what was written to it.
+    OutputFault,
     /// A folder holds more files than are read.
     TooManyFiles(Path),
     /// A file holds more bytes than are read.
@@ -26,6 +28,8 @@ pub enum Stop {
     NotLoaded(Bytes),
     /// The lists are of a form that is not built yet.
     ConfigNotBuilt,
+    /// A class is of a form whose instrumentation is not built yet.
+    NotBuilt(Name),
     /// A file that was to be read is not there.
     NoFile(Path),
     /// The output folder holds a file.

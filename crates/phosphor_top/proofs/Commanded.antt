@@ -1,12 +1,13 @@
 -- Words and the command that they spell.
 use Rattle.std.proofs.Common.{◌≡◌, ◌≢◌, ◌∙◌, ℕ, ◌<◌, ◌≤◌, ◌==◌, ◌&&◌, String, Global, string_bytes, string_len, map, take, length, get_or, subst, arith, List, [], ◌∷◌, ◌++◌, Bool, true, false, rules, refl, sym, ap, codes, if◌then◌else◌}
+use Rattle.std.specs.Prelude.{Option, Some, None, MatchOption}
 use Rattle.std.specs.Str.{IsUtf8}
 use Rattle.std.proofs.lemmas.Bool.{eqb-true}
 use Rattle.std.proofs.lemmas.Str.{IsUtf8-take, IsUtf8-from_ascii, IsCharBoundary-at_seam}
 use Rattle.std.proofs.lemmas.Str.Ascii.{IsAscii-from_all}
-use Rattle.phosphor_top.specs.Commands.{Command, Spells, NamesFolder, without_slashes, is_nothing}
+use Rattle.phosphor_top.specs.Commands.{Command, Instrument, Check, Paths, Spells, SpellsCheck, SpellsInstrument, IsCheck, NamesFolder, without_slashes, is_nothing}
 
-same_fields : (a b c x y z : List ℕ) → a ≡ x → b ≡ y → c ≡ z → ◌≡◌ {A = Command} (record { input = a; output = b; config = c }) (record { input = x; output = y; config = z })
+same_fields : (a b c x y z : List ℕ) → a ≡ x → b ≡ y → c ≡ z → ◌≡◌ {A = Paths} (record { input = a; output = b; config = c }) (record { input = x; output = y; config = z })
 same_fields a b c x y z p q r = cc
 
 second : (a b c d w x y z : List ℕ) → a ∷ b ∷ c ∷ d ∷ [] ≡ w ∷ x ∷ y ∷ z ∷ [] → b ≡ x
@@ -18,14 +19,32 @@ third a b c d w x y z e = cc
 fourth : (a b c d w x y z : List ℕ) → a ∷ b ∷ c ∷ d ∷ [] ≡ w ∷ x ∷ y ∷ z ∷ [] → d ≡ z
 fourth a b c d w x y z e = cc
 
--- words spell one command at most
-pub one_command : (words : List (List ℕ)) (c d : Command) → Spells words c → Spells words d → c ≡ d
-one_command words c d s t =
+second_of_two : (a b w x : List ℕ) → a ∷ b ∷ [] ≡ w ∷ x ∷ [] → b ≡ x
+second_of_two a b w x e = cc
+
+four_are_not_two : (a b c d w x : List ℕ) → a ∷ b ∷ c ∷ d ∷ [] ≡ w ∷ x ∷ [] → ⊥
+four_are_not_two a b c d w x e = cc
+
+pub one_paths : (words : List (List ℕ)) (c d : Paths) → SpellsInstrument words c → SpellsInstrument words d → c ≡ d
+one_paths words c d s t =
     let e = sym s.words_are ∙ t.words_are in
     same_fields c.input c.output c.config d.input d.output d.config
     (s.input_named.is ∙ ap without_slashes (second _ _ _ _ _ _ _ _ e) ∙ sym t.input_named.is)
     (s.output_named.is ∙ ap without_slashes (third _ _ _ _ _ _ _ _ e) ∙ sym t.output_named.is)
     (fourth _ _ _ _ _ _ _ _ e)
+
+pub one_dir : (words : List (List ℕ)) (c d : List ℕ) → SpellsCheck words c → SpellsCheck words d → c ≡ d
+one_dir words c d s t = s.named.is ∙ ap without_slashes (second_of_two _ _ _ _ (sym s.words_are ∙ t.words_are)) ∙ sym t.named.is
+
+pub never_both : (words : List (List ℕ)) (paths : Paths) (dir : List ℕ) → SpellsInstrument words paths → SpellsCheck words dir → ⊥
+never_both words paths dir s t = four_are_not_two _ _ _ _ _ _ (sym s.words_are ∙ t.words_are)
+
+-- words spell one command at most
+pub one_command : (words : List (List ℕ)) (c d : Command) → Spells words c → Spells words d → c ≡ d
+one_command words (Instrument c) (Instrument d) s t = ap Instrument (one_paths words c d s t)
+one_command words (Instrument c) (Check d) s t = absurd (never_both words c d s t)
+one_command words (Check c) (Instrument d) s t = absurd (never_both words d c t s)
+one_command words (Check c) (Check d) s t = ap Check (one_dir words c d s t)
 
 -- a slash at the end goes
 pub slash_goes : (front : List ℕ) → without_slashes (front ++ 47 ∷ []) ≡ without_slashes front
@@ -73,19 +92,33 @@ four (w ∷ x ∷ y ∷ []) a b c d from to p q r s = absurd (omega (arith, from
 four (w ∷ x ∷ y ∷ z ∷ []) a b c d from to p q r s = same_four a b c d w x y z p q r s
 four (w ∷ x ∷ y ∷ z ∷ v ∷ words) a b c d from to p q r s = absurd (omega (arith, to))
 
-pub input_spelled : (words : List (List ℕ)) (a b c d : List ℕ) (command : Command) → words ≡ a ∷ b ∷ c ∷ d ∷ [] → Spells words command → NamesFolder b command.input
-input_spelled words a b c d command are spells = subst (λ (word : List ℕ). NamesFolder word command.input) (second _ _ _ _ _ _ _ _ (sym spells.words_are ∙ are)) spells.input_named
+same_two : (a b w x : String Global) → a ≡ w → b ≡ x → string_bytes w ∷ string_bytes x ∷ [] ≡ string_bytes a ∷ string_bytes b ∷ []
+same_two a b w x p q = cc
 
-pub output_spelled : (words : List (List ℕ)) (a b c d : List ℕ) (command : Command) → words ≡ a ∷ b ∷ c ∷ d ∷ [] → Spells words command → NamesFolder c command.output
-output_spelled words a b c d command are spells = subst (λ (word : List ℕ). NamesFolder word command.output) (third _ _ _ _ _ _ _ _ (sym spells.words_are ∙ are)) spells.output_named
+-- two words, as texts
+pub two : (words : List (String Global)) (a b : String Global) → 2 ≤ length words → length words < 3 → a ≡ get_or words 0 a → b ≡ get_or words 1 b
+    → map string_bytes words ≡ string_bytes a ∷ string_bytes b ∷ []
+two [] a b from to p q = absurd (omega (arith, from))
+two (w ∷ []) a b from to p q = absurd (omega (arith, from))
+two (w ∷ x ∷ []) a b from to p q = same_two a b w x p q
+two (w ∷ x ∷ v ∷ words) a b from to p q = absurd (omega (arith, to))
+
+pub input_spelled : (words : List (List ℕ)) (a b c d : List ℕ) (paths : Paths) → words ≡ a ∷ b ∷ c ∷ d ∷ [] → SpellsInstrument words paths → NamesFolder b paths.input
+input_spelled words a b c d paths are spells = subst (λ (word : List ℕ). NamesFolder word paths.input) (second _ _ _ _ _ _ _ _ (sym spells.words_are ∙ are)) spells.input_named
+
+pub output_spelled : (words : List (List ℕ)) (a b c d : List ℕ) (paths : Paths) → words ≡ a ∷ b ∷ c ∷ d ∷ [] → SpellsInstrument words paths → NamesFolder c paths.output
+output_spelled words a b c d paths are spells = subst (λ (word : List ℕ). NamesFolder word paths.output) (third _ _ _ _ _ _ _ _ (sym spells.words_are ∙ are)) spells.output_named
+
+dir_spelled : (words : List (List ℕ)) (a b dir : List ℕ) → words ≡ a ∷ b ∷ [] → SpellsCheck words dir → NamesFolder b dir
+dir_spelled words a b dir are spells = subst (λ (word : List ℕ). NamesFolder word dir) (second_of_two _ _ _ _ (sym spells.words_are ∙ are)) spells.named
 
 pub no_length : {Z : Type 0} (s : String Z) → string_bytes s ≡ [] → string_len s ≡ 0
 no_length s nothing = s.bytes.ok.0 ∙ ap length nothing
 
--- four words that were told apart spell a command
-pub spelled : (words : List (List ℕ)) (a b c d : List ℕ) (command : Command) → words ≡ a ∷ b ∷ c ∷ d ∷ [] → a ≡ codes "instrument" → NamesFolder b command.input → NamesFolder c command.output
-    → command.config ≡ d → d ≢ [] → Spells words command
-spelled words a b c d command are name input output config some = record {
+-- four words that were told apart spell `instrument`
+pub spelled : (words : List (List ℕ)) (a b c d : List ℕ) (paths : Paths) → words ≡ a ∷ b ∷ c ∷ d ∷ [] → a ≡ codes "instrument" → NamesFolder b paths.input → NamesFolder c paths.output
+    → paths.config ≡ d → d ≢ [] → SpellsInstrument words paths
+spelled words a b c d paths are name input output config some = record {
   input = b;
   output = c;
   words_are = are ∙ ap (λ (word : List ℕ). word ∷ b ∷ c ∷ d ∷ []) name ∙ ap (λ (word : List ℕ). codes "instrument" ∷ b ∷ c ∷ word ∷ []) (sym config);
@@ -93,3 +126,13 @@ spelled words a b c d command are name input output config some = record {
   output_named = output;
   config_named = λ nothing. some (sym config ∙ nothing);
 }
+
+-- two words that were told apart spell `check`
+check_spelled : (words : List (List ℕ)) (a b dir : List ℕ) → words ≡ a ∷ b ∷ [] → a ≡ codes "check" → NamesFolder b dir → SpellsCheck words dir
+check_spelled words a b dir are name named = record { word = b; words_are = are ∙ ap (λ (word : List ℕ). word ∷ b ∷ []) name; named = named }
+
+-- the second of two words is a folder, or the words do not spell `check`
+pub check_word : {A : Type 0} (found : Option A) (now : A → List ℕ) (words : List (List ℕ)) (a b : List ℕ) → words ≡ a ∷ b ∷ [] → a ≡ codes "check"
+    → MatchOption found ((dir : List ℕ) → NamesFolder b dir → ⊥) (λ dir. NamesFolder b (now dir)) → MatchOption found (IsCheck words → ⊥) (λ dir. SpellsCheck words (now dir))
+check_word None now words a b are name none = λ spells. none spells.0 (dir_spelled words a b spells.0 are spells.1)
+check_word (Some dir) now words a b are name named = check_spelled words a b (now dir) are name named

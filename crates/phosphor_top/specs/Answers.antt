@@ -1,20 +1,16 @@
--- What a status of the top call says, for words, the files of the folder, and standard error. This project's own rules.
+-- What a status of the top call says, for words, the files of the folder, and the streams. This project's own rules.
 use Rattle.std.specs.Prelude.{◌≡◌, ℕ, List, [], ◌⊎◌, Option, Result, Ok, Err}
 use Rattle.outside_io.specs.Causes.{Rose}
 use Rattle.outside_io.specs.Files.{Files}
-use Rattle.class_model.specs.declared.class.ClassDef.{ClassDef}
-use Rattle.run_state.specs.declared.config.Config.{Config}
-use Rattle.command_parts.specs.Lines.{write_fault_line}
+use Rattle.command_parts.specs.Lines.{ok_line, write_fault_line}
 use Rattle.command_parts.specs.Stops.{status_of, line_of}
-use Rattle.command_parts.specs.Told.{Told, Took}
+use Rattle.command_parts.specs.Told.{Told, Took, TookFront}
 use Rattle.command_parts.specs.declared.stop.Stop.{Stop}
-use Rattle.phosphor_top.specs.Commands.{Command, Spells}
+use Rattle.phosphor_top.specs.Commands.{Command, Instrument, Check, Paths, Spells, SpellsInstrument, SpellsCheck}
 use Rattle.phosphor_top.specs.Verdict.{Passes, Refuses, IsVerdict}
-use Rattle.phosphor_top.specs.Endings.{Writes, StopsWriting}
-
--- the words spell no command
-abbrev pub IsNoCommand : List (List ℕ) → Type 0
-IsNoCommand words = (command : Command) → Spells words command → ⊥
+use Rattle.phosphor_top.specs.Endings.{Faults}
+use Rattle.phosphor_top.specs.Instrument.{Writes, StopsWriting}
+use Rattle.phosphor_top.specs.Check as check
 
 -- the status and the line of an outcome; r and s are the counts of faults of standard error before and after
 abbrev pub Tells : Result (Unit {0}) Stop → (old new : Option (List ℕ)) → (r s status : ℕ) → Type 0
@@ -27,6 +23,8 @@ IsRefusal status = (status ≡ 2) ⊎ (status ≡ 10)
 -- a device failed or memory ran out, to which a refusal yields
 abbrev pub Yields : (status : ℕ) → Type 0
 Yields status = (status ≡ 3) ⊎ (status ≡ 4) ⊎ (status ≡ 5)
+
+-- ---- refusals
 
 -- the verdict on the command that the words spell refuses it with this status, and standard error has its line
 pub record IsRefused (words : List (List ℕ)) (files : Files) (old new : Option (List ℕ)) (status : ℕ) : Type 0 where
@@ -43,18 +41,46 @@ abbrev pub IsDue : List (List ℕ) → Files → (old new : Option (List ℕ)) �
 IsDue words files old new status = (command : Command) (stop : Stop) → Spells words command → IsVerdict stop → Refuses command files stop
     → ((status ≡ status_of stop) × Took old new (line_of stop)) ⊎ Yields status
 
--- 'instrument, complete': where the verdict passes and no device failed, the status is 0 or 5
-abbrev pub IsComplete : List (List ℕ) → Files → (failed : Type 0) → (status : ℕ) → Type 0
-IsComplete words files failed status = (command : Command) (set : List ClassDef) (config : Config) → Spells words command → Passes command files set config
-    → (failed → ⊥) → (status ≡ 0) ⊎ (status ≡ 5)
+-- the verdict refuses a command that the words spell
+abbrev pub IsBarred : List (List ℕ) → Files → Type 0
+IsBarred words files = (command : Command) × Spells words command × (stop : Stop) × IsVerdict stop × Refuses command files stop
+
+-- ---- completeness
+
+-- a device that a command works with failed; r and s are the counts of faults of standard error before and after
+abbrev pub HasFailed : Command → (before now : Faults) → (r s : ℕ) → Type 0
+HasFailed (Instrument paths) before now r s = Rose before.reads now.reads ⊎ Rose before.writes now.writes ⊎ Rose r s
+HasFailed (Check dir) before now r s = Rose before.reads now.reads ⊎ Rose before.out now.out ⊎ Rose r s
+
+-- where the verdict passes and no device failed that the command works with, the status is 0 or 5
+abbrev pub IsComplete : List (List ℕ) → Files → (before now : Faults) → (r s status : ℕ) → Type 0
+IsComplete words files before now r s status = (command : Command) → Spells words command → Passes command files
+    → (HasFailed command before now r s → ⊥) → (status ≡ 0) ⊎ (status ≡ 5)
+
+-- ---- what is done
 
 -- 'instrument, whole'
 abbrev pub IsWhole : List (List ℕ) → (old new : Files) → Type 0
-IsWhole words old new = (command : Command) × Spells words command × Writes command old new
+IsWhole words old new = (paths : Paths) → SpellsInstrument words paths → Writes paths old new
+
+-- the folder is as before, and standard output has the number of its class files, which load
+pub record Checked (dir : List ℕ) (old new : Files) (before now : Option (List ℕ)) : Type 0 where
+  pub kept : new ≡ old
+  pub count : ℕ
+  pub passes : check.Passes dir old count
+  pub line : Took before now (ok_line count)
+
+-- 'check, whole'
+abbrev pub IsChecked : List (List ℕ) → (before now : Option (List ℕ)) → (old new : Files) → Type 0
+IsChecked words before now old new = (dir : List ℕ) → SpellsCheck words dir → Checked dir old new before now
+
+-- whatever comes of a folder whose class files load, standard output has a front of the line of their number, and nothing else
+abbrev pub HasFront : List (List ℕ) → Files → (before now : Option (List ℕ)) → Type 0
+HasFront words files before now = (dir : List ℕ) (count : ℕ) → SpellsCheck words dir → check.Passes dir files count → TookFront before now (ok_line count)
 
 -- what a stopped write leaves, with the line of the file that failed, where standard error took it; r and s are the
 -- counts of faults of standard error before and after
 abbrev pub IsStopped : List (List ℕ) → (before now : Option (List ℕ)) → (r s : ℕ) → (old new : Files) → Type 0
 IsStopped words before now r s old new =
     (new ≡ old)
-    ⊎ ((command : Command) × Spells words command × (path : List ℕ) × StopsWriting command old new path × (Rose r s ⊎ Took before now (write_fault_line path)))
+    ⊎ ((paths : Paths) × SpellsInstrument words paths × (path : List ℕ) × StopsWriting paths old new path × (Rose r s ⊎ Took before now (write_fault_line path)))

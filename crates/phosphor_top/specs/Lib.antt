@@ -1,4 +1,9 @@
 pub mod Commands
+pub mod Words
+pub mod Loading
+pub mod Configuring
+pub mod Instrument
+pub mod Check
 pub mod Verdict
 pub mod Endings
 pub mod Answers

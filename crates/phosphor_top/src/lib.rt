@@ -1,6 +1,7 @@
 //! The top call of Phosphor: the words of a command, the devices, and the order of its work.
 #![tactic(auto)]
 
+mod check;
 mod instrument;
 mod parts;
 mod top;

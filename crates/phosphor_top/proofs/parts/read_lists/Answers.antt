@@ -1,4 +1,4 @@
-use Rattle.phosphor_top.proofs.PartsGive.{lists_give}
+use Rattle.phosphor_top.proofs.ConfigParts.{lists_give}
 use Rattle.phosphor_top.proofs.parts.read_lists.Goals as goal
 
 pub returns-clause-gives : goal.returns-clause-gives

@@ -2,17 +2,17 @@ use Rattle.std.proofs.Common.{◌≡◌, ◌≢◌, ◌∙◌, [], ◌∷◌, Bo
 use Rattle.std.specs.Cmp.Lexicographic.{same_text}
 use Rattle.std.proofs.lemmas.Bool.{eq-eqb, not-false}
 use Rattle.phosphor_top.proofs.Commanded.{four, input_spelled, output_spelled, no_length, spelled}
-use Rattle.phosphor_top.proofs.words.command_of.Goals as goal
+use Rattle.phosphor_top.proofs.words.instrument_of.Goals as goal
 
 pub returns-in_err-folder_word : goal.returns-in_err-folder_word
 returns-in_err-folder_word c =
     let are : map string_bytes c.args.words.now ≡ string_bytes c.name-item.result ∷ string_bytes c.input-item.result ∷ string_bytes c.output-item.result ∷ string_bytes c.config-item.result ∷ [] = four c.args.words.now c.name-item.result c.input-item.result c.output-item.result c.config-item.result c.in-len4.len_at_least c.in-len4.len_below c.name-item.is c.input-item.is c.output-item.is c.config-item.is in
-    rw c.from_residual.ensures (λ command spells. c.in_err-folder_word.ensures command.input (rw c.as_str-2.ensures.value (input_spelled _ _ _ _ _ command are spells)))
+    rw c.from_residual.ensures (λ spells. c.in_err-folder_word.ensures spells.0.input (rw c.as_str-2.ensures.value (input_spelled _ _ _ _ _ spells.0 are spells.1)))
 
 pub returns-in_err-folder_word-2 : goal.returns-in_err-folder_word-2
 returns-in_err-folder_word-2 c =
     let are : map string_bytes c.args.words.now ≡ string_bytes c.name-item.result ∷ string_bytes c.input-item.result ∷ string_bytes c.output-item.result ∷ string_bytes c.config-item.result ∷ [] = four c.args.words.now c.name-item.result c.input-item.result c.output-item.result c.config-item.result c.in-len4.len_at_least c.in-len4.len_below c.name-item.is c.input-item.is c.output-item.is c.config-item.is in
-    rw c.from_residual-in_err-folder_word-2.ensures (λ command spells. c.in_err-folder_word-2.ensures command.output (rw c.as_str-3.ensures.value (output_spelled _ _ _ _ _ command are spells)))
+    rw c.from_residual-in_err-folder_word-2.ensures (λ spells. c.in_err-folder_word-2.ensures spells.0.output (rw c.as_str-3.ensures.value (output_spelled _ _ _ _ _ spells.0 are spells.1)))
 
 true_is_false : {b : Bool} → b ≡ true → b ≡ false → ⊥
 true_is_false p q = cc
