@@ -64,3 +64,101 @@ def sum_of_two_bytes(name, pad=0):
         + method
         + struct.pack(">H", 0)
     )
+
+
+def field_entry(pool, class_name, name, descriptor):
+    owner = pool.class_(class_name)
+    pair = pool.add(b"\x0c" + struct.pack(">HH", pool.text(name), pool.text(descriptor)))
+    return pool.add(b"\x09" + struct.pack(">HH", owner, pair))
+
+
+def method_info(pool, flags, name, descriptor, max_stack, max_locals, code, frames=()):
+    """A method with code; `frames` are its stack map frames, each as its bytes."""
+    attributes = b""
+    if frames:
+        table = struct.pack(">H", len(frames)) + b"".join(frames)
+        attributes = struct.pack(">HI", pool.text("StackMapTable"), len(table)) + table
+    content = struct.pack(">HHI", max_stack, max_locals, len(code)) + code
+    content += struct.pack(">HH", 0, 1 if frames else 0) + attributes
+    head = struct.pack(">HHHH", flags, pool.text(name), pool.text(descriptor), 1)
+    return head + struct.pack(">HI", pool.text("Code"), len(content)) + content
+
+
+def constructor(pool, above):
+    """A constructor without parameters, which calls that of the superclass."""
+    call = struct.pack(">H", pool.method(above, "<init>", "()V"))
+    return method_info(pool, 0x0001, "<init>", "()V", 1, 1, b"\x2a\xb7" + call + b"\xb1")
+
+
+def whole(pool, name, above, fields, methods):
+    """A public class of major 52 with these fields (their bytes) and methods (their bytes)."""
+    this, superclass = pool.class_(name), pool.class_(above)
+    return (
+        struct.pack(">IHH", 0xCAFEBABE, 0, 52)
+        + pool.bytes()
+        + struct.pack(">HHHHH", 0x0021, this, superclass, 0, len(fields))
+        + b"".join(fields)
+        + struct.pack(">H", len(methods))
+        + b"".join(methods)
+        + struct.pack(">H", 0)
+    )
+
+
+def static_number(pool, name, number):
+    """A static method that gives a number."""
+    return method_info(pool, 0x0009, name, "()I", 1, 0, b"\x11" + struct.pack(">h", number % 30_000) + b"\xac")
+
+
+def name_of(number):
+    return "C%06d" % number
+
+
+def link_of_a_chain(number, _count):
+    """A class that extends the one before it, and the first `java/lang/Object`."""
+    pool = Pool()
+    above = name_of(number - 1) if number else "java/lang/Object"
+    return whole(pool, name_of(number), above, [], [constructor(pool, above), static_number(pool, "f", number)])
+
+
+def class_by_itself(number, _count):
+    """A class that extends `java/lang/Object` and calls its own static method."""
+    pool = Pool()
+    own = struct.pack(">H", pool.method(name_of(number), "f", "()I"))
+    methods = [
+        constructor(pool, "java/lang/Object"),
+        static_number(pool, "f", number),
+        method_info(pool, 0x0009, "g", "()I", 1, 0, b"\xb8" + own + b"\xac"),
+    ]
+    return whole(pool, name_of(number), "java/lang/Object", [], methods)
+
+
+def class_with_references(number, count):
+    """A class that calls methods of ten others and reads fields of ten others."""
+    pool = Pool()
+    code = b"\x03"
+    for step in range(10):
+        other = name_of((number * 7 + step * 131 + 1) % count)
+        code += b"\xb8" + struct.pack(">H", pool.method(other, "f", "()I")) + b"\x60"
+        code += b"\xb2" + struct.pack(">H", field_entry(pool, other, "x", "I")) + b"\x60"
+    field = struct.pack(">HHHH", 0x0009, pool.text("x"), pool.text("I"), 0)
+    methods = [
+        static_number(pool, "f", number),
+        method_info(pool, 0x0009, "g", "()I", 2, 0, code + b"\xac"),
+    ]
+    return whole(pool, name_of(number), "java/lang/Object", [field], methods)
+
+
+def class_of_many_frames(count):
+    """A class with one method of `count` frames, six bytes apart."""
+    pool = Pool()
+    unit = b"\x1a\x99" + struct.pack(">h", 5) + b"\x00\x00"
+    frames = [bytes([6])] + [bytes([5])] * (count - 1)
+    method = method_info(pool, 0x0009, "f", "(I)V", 1, 1, unit * count + b"\xb1", frames)
+    return whole(pool, "M", "java/lang/Object", [], [method])
+
+
+SETS = {
+    "a chain": link_of_a_chain,
+    "each by itself": class_by_itself,
+    "with references": class_with_references,
+}

@@ -19,17 +19,19 @@ def build():
         sys.exit("the program is not built: run 'rt run' in crates/phosphor_cli")
 
 
-def measured(command, cwd):
-    """Seconds and peak memory, in bytes, of a command."""
+def measured(command, cwd, status=None):
+    """Seconds and peak memory, in bytes, of a command. Where a status is given, it has to end with that."""
     start = time.perf_counter()
     child = subprocess.Popen(command, cwd=cwd, stdout=subprocess.DEVNULL, stderr=subprocess.DEVNULL)
-    _, _, usage = os.wait4(child.pid, 0)
+    _, ended, usage = os.wait4(child.pid, 0)
     seconds = time.perf_counter() - start
-    child.returncode = 0
+    child.returncode = os.waitstatus_to_exitcode(ended)
+    if status is not None and child.returncode != status:
+        sys.exit("%s: status %d, not %d" % (" ".join(command), child.returncode, status))
     return seconds, usage.ru_maxrss * 1024
 
 
-def best(command, cwd, runs):
+def best(command, cwd, runs, status=None):
     """The least seconds and the highest peak of several runs."""
-    results = [measured(command, cwd) for _ in range(runs)]
+    results = [measured(command, cwd, status) for _ in range(runs)]
     return min(r[0] for r in results), max(r[1] for r in results)
