@@ -89,12 +89,34 @@ def compiled(folder, count):
         subprocess.run(["javac", "--release", "8", "-Xlint:-options", "-d", folder] + names, check=True)
 
 
+def growing():
+    """Prints the time of a byte for sets of growing size, and answers what went past its bound."""
+    past = []
+    print("| classes | | bytes | seconds | nanoseconds a byte |")
+    print("|---|---|---|---|---|")
+    for kind, fill in (("made", made), ("compiled", compiled)):
+        first = None
+        for count in (100, 1_000, 10_000):
+            with tempfile.TemporaryDirectory() as work:
+                folder = os.path.join(work, "in")
+                fill(folder, count)
+                total = sum(entry.stat().st_size for entry in os.scandir(folder))
+                seconds, _ = best([PROGRAM, "check", folder], work, 5, status=0)
+            first = first or seconds / total
+            print("| %d | %s | %d | %.4f | %.0f |" % (count, kind, total, seconds, 1e9 * seconds / total))
+            if seconds / total > 2 * first:
+                past.append("%d classes, %s: over twice the time of a byte of 100" % (count, kind))
+    return past
+
+
 def checking():
     """Prints the table, and answers what went past its bound."""
     past = []
     if not (shutil.which("java") and shutil.which("javac")):
         print("no java: skipped")
         return past
+    past += growing()
+    print()
     print("| classes | | bytes | phosphor check | java -Xverify:all | ratio |")
     print("|---|---|---|---|---|---|")
     with tempfile.TemporaryDirectory() as work:
