@@ -25,7 +25,8 @@ use Rattle.instrument_set.specs.Marking.{marks_of}
 use Rattle.instrument_set.specs.Written.{written_code, written_method, written_class}
 use Rattle.instrument_set.specs.WrittenSet.{comes_before, insert_class, written_base, with_written, written_set}
 use Rattle.instrument_set.specs.Mirrors.{Mirrors}
-use Rattle.instrument_set.proofs.Looking.{same_text_same, same_text_other, Found, natives_found, report_found, main_found, nothing_begins}
+use Rattle.instrument_set.proofs.Looking.{same_text_same, same_text_other, Found, main_found, nothing_begins}
+use Rattle.instrument_set.proofs.Resolving.{natives_found, report_found}
 use Rattle.instrument_set.proofs.Apart.{Others, not_report, form_apart, report_other, not_object, not_native, object_found, native_found}
 use Rattle.instrument_set.proofs.Formed.{take_none}
 use Rattle.instrument_set.proofs.Marked.{are_marks, main_is_quiet}

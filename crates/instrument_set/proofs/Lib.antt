@@ -8,6 +8,7 @@ pub mod Sim
 pub mod Root
 pub mod Whole
 pub mod Looking
+pub mod Resolving
 pub mod Apart
 pub mod Beside
 pub mod Straight

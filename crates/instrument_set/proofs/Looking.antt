@@ -9,16 +9,11 @@ use Rattle.class_model.specs.declared.class.CodeDef.{CodeDef}
 use Rattle.class_model.specs.declared.class.MethodDef.{MethodDef}
 use Rattle.class_model.specs.declared.class.ClassDef.{ClassDef}
 use Rattle.run_state.specs.Texts.{same_text}
-use Rattle.run_state.specs.Natives as native
 use Rattle.run_state.specs.References.{given}
-use Rattle.run_state.specs.SetLooks.{class_named, method_where, chain_of, superclasses, method_of, first_where, has_name_and_desc, initializers, is_initializer, is_main, main_of, looks_of}
+use Rattle.run_state.specs.SetLooks.{class_named, method_where, chain_of, superclasses, method_of, initializers, is_initializer, is_main, main_of}
 use Rattle.small_base.specs.Members.{object_name}
 use Rattle.first_form.specs.FormOne.{main_method}
-use Rattle.small_base.specs.Base.{object_class, native_class}
-use Rattle.first_form.specs.Base.{report_class}
-use Rattle.instrument_set.specs.Pieces.{report_ref}
-use Rattle.instrument_set.proofs.Natives.{ref_of}
-use Rattle.instrument_set.proofs.Sim.{HasNatives, HasReport}
+use Rattle.small_base.specs.Base.{object_class}
 
 same_text_Decides : (a b : List ℕ) → Decides (same_text a b) (a ≡ b)
 same_text_Decides a b = slice_eq-Decides Decides-eqb a b (same_text a b) refl
@@ -63,27 +58,6 @@ chain_of_two set n c found object super =
 
 pub superclasses_of_two : (set : List ClassDef) (n : ℕ) (c : ClassDef) → length set ≡ suc (suc n) → Found set c → Found set object_class → c.super_name ≡ Some object_name → superclasses set c.name ≡ c ∷ object_class ∷ []
 superclasses_of_two set n c long found object super = ap (λ (k : ℕ). chain_of k set (Some c.name)) long ∙ chain_of_two set n c found object super
-
--- the natives of `sys/Native` in a set that has it
-pub natives_found : (set : List ClassDef) (main : List ℕ) (n : ℕ) → length set ≡ suc (suc n) → Found set native_class → Found set object_class → HasNatives (looks_of set main)
-unfolding chars
-natives_found set main n long found object =
-    let chain = superclasses_of_two set n native_class long found object refl in
-    record {
-      read = ap (λ (cs : List ClassDef). first_where (has_name_and_desc (ref_of native.Read).name (ref_of native.Read).desc) cs) chain;
-      write = ap (λ (cs : List ClassDef). first_where (has_name_and_desc (ref_of native.Write).name (ref_of native.Write).desc) cs) chain;
-      begun = ap initializers chain;
-    }
-
--- the native that reports in a set that has it
-pub report_found : (set : List ClassDef) (main : List ℕ) (n : ℕ) → length set ≡ suc (suc n) → Found set report_class → Found set object_class → HasReport (looks_of set main)
-unfolding chars report_class
-report_found set main n long found object =
-    let chain = superclasses_of_two set n report_class long found object refl in
-    record {
-      found = ap (λ (cs : List ClassDef). first_where (has_name_and_desc report_ref.name report_ref.desc) cs) chain;
-      begun = ap initializers chain;
-    }
 
 -- the `main` of a class of the form
 pub main_found : (set : List ClassDef) (c : ClassDef) (code : CodeDef) → Found set c → c.methods ≡ main_method code ∷ [] → main_of set c.name ≡ Some (method_of c (main_method code))

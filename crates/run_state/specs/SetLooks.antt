@@ -1,5 +1,5 @@
 -- The look-ups in a set of classes, which are asked by name.
-use Rattle.std.specs.Prelude.{ℕ, zero, suc, ◌==◌, ◌&&◌, ◌||◌, not, Bool, true, false, List, [], ◌∷◌, ◌++◌, length, map, reverse, filter, find, flat_map, position, Option, Some, None, option_map, if◌then◌else◌}
+use Rattle.std.specs.Prelude.{ℕ, zero, suc, ◌==◌, ◌&&◌, ◌||◌, not, Bool, true, false, List, [], ◌∷◌, ◌++◌, length, map, reverse, filter, find, flat_map, position, Option, Some, None, slice_get, option_map, option_and_then, if◌then◌else◌}
 use Rattle.class_model.specs.declared.types.BaseType.{BaseType}
 use Rattle.class_model.specs.declared.types.BaseType.TheVariants as base
 use Rattle.class_model.specs.declared.types.JType.{JType}
@@ -15,6 +15,7 @@ use Rattle.class_model.specs.declared.class.ClassDef.{ClassDef}
 use Rattle.class_model.specs.declared.class.Handler.{Handler}
 use Rattle.class_model.specs.declared.insn.Insn.{Insn}
 use Rattle.class_model.specs.Descriptor.{words_of, letter_of}
+use Rattle.set_lookups.specs.Lookups.{Member, resolve_method}
 use Rattle.run_state.specs.Texts.{same_text, same_type, same_desc, same_field, has_flag, private_flag, static_flag, native_flag, class_type, object_name, main_name, main_desc, initializer_name}
 use Rattle.run_state.specs.Natives.{native_of}
 use Rattle.run_state.specs.Words.{Word, Num, Long}
@@ -99,18 +100,16 @@ has_name_and_desc name desc d = same_text d.name name && same_desc d.desc desc
 abbrev pub is_selectable : MethodDef → Bool
 is_selectable d = not (has_flag d.flags static_flag) && not (has_flag d.flags private_flag)
 
-abbrev pub class_of_base : BaseType → List ℕ
-class_of_base (base.Primitive p) = object_name
-class_of_base (base.Class c) = c
+-- the method of a member, by its class and its number there
+abbrev pub method_in : ℕ → ClassDef → Option Method
+method_in index c = option_map (method_of c) (slice_get c.methods index)
 
--- an array's methods are Object's
-abbrev pub method_class : JType → List ℕ
-method_class ty = if ty.depth == 0 then class_of_base ty.base else object_name
+abbrev pub shown_method : List ClassDef → Member → Option Method
+shown_method set member = option_and_then (method_in member.index) (slice_get set member.class)
 
--- resolution (JVMS 5.4.3.3): the named class, then its superclasses upward. What only interfaces declare is abstract,
--- and no call enters it.
+-- resolution (JVMS 5.4.3.3), as of a set that is judged
 abbrev pub resolved : List ClassDef → MethodRef → Option Method
-resolved set ref = first_where (has_name_and_desc ref.name ref.desc) (superclasses set (method_class ref.class))
+resolved set ref = option_and_then (shown_method set) (resolve_method set ref)
 
 -- selection: from the receiver's class upward, the first of that name and descriptor that is neither static nor private
 abbrev pub selected_in : List ClassDef → List ℕ → MethodRef → Option Method
