@@ -1,3 +1,4 @@
 pub mod Sums
 pub mod First
 pub mod Noted
+pub mod Mentions

@@ -1,10 +1,9 @@
 -- What a class names that its written form has in its constant pool: numbers, literals, classes and members, each time that it names it;
 -- outside InnerClasses and Exceptions. Names within descriptors, keys of switches, steps of iinc and types of newarray are left out.
-use Rattle.std.specs.Prelude.{ℕ, ◌+◌, Bool, ℤ, List, [], ◌∷◌, ◌++◌, sum_by, Option, Some, None, option_to_list, if◌then◌else◌}
+use Rattle.std.specs.Prelude.{ℕ, ℤ, List, [], ◌∷◌, ◌++◌, option_to_list, if◌then◌else◌}
 use Rattle.std.specs.List.{flat_map}
 use Rattle.class_model.specs.declared.types.JType.{JType}
 use Rattle.class_model.specs.declared.types.BaseType.TheVariants as bases
-use Rattle.class_model.specs.declared.types.MethodDesc.{MethodDesc}
 use Rattle.class_model.specs.declared.types.FieldRef.{FieldRef}
 use Rattle.class_model.specs.declared.types.MethodRef.{MethodRef}
 use Rattle.class_model.specs.declared.insn.Insn.{Insn}

@@ -4,3 +4,4 @@ pub mod Items
 pub mod Pool
 pub mod Keys
 pub mod Limits
+pub mod Mentions

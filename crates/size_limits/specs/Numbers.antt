@@ -1,5 +1,5 @@
 -- The numbers of size of a class and of a method, that of the constant pool aside. All are this project's own.
-use Rattle.std.specs.Prelude.{ℕ, ◌+◌, ◌*◌, max, not, Bool, true, false, List, [], ◌∷◌, ◌++◌, length, sum_by, count_by, Option, Some, None, option_to_list}
+use Rattle.std.specs.Prelude.{ℕ, ◌+◌, ◌*◌, max, not, List, [], ◌∷◌, length, count_by, option_to_list}
 use Rattle.class_model.specs.declared.insn.Insn.{Insn}
 use Rattle.class_model.specs.declared.insn.Insn.TheVariants.{GetStatic, PutStatic, GetField, PutField, Invoke, New, ANewArray, CheckCast, InstanceOf, MultiNewArray}
 use Rattle.class_model.specs.declared.types.JType.{JType}
@@ -20,7 +20,6 @@ use Rattle.class_model.specs.Descriptor.{field_descriptor, method_descriptor}
 use Rattle.modified_utf8.specs.Text.{text_bytes}
 use Rattle.class_limits.specs.Texts.{class_name_of}
 use Rattle.profile_check.specs.Members.{is_static}
-use Rattle.size_limits.specs.Weights.{code_weight}
 
 -- the greatest of the numbers that a list gives, 0 where it is empty
 unfoldable pub most : {A : Type 0} → (A → ℕ) → List A → ℕ

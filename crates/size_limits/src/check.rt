@@ -4,6 +4,7 @@ ghost use Rattle.std.specs.Prelude.{◌≡◌, ◌≤◌, ◌<◌, ◌^◌, leng
 ghost use Rattle.size_limits.specs.Limits as limits;
 
 use crate::limit::{ClassLimit, LimitKind, LimitStop};
+use crate::lists_by_class::ListsByClass;
 use crate::measure::Measure;
 use crate::method::{Locals, Params, Stacks, Weights, members_number};
 use crate::names::text_number;
@@ -130,10 +131,10 @@ fn method_limit(class: &ClassDef) -> Option<ClassLimit>
 #[tactic(auto, unfolding(crate::specs::Limits::class_limit), using(crate::proofs::First::passed_told))]
 fn class_limit(
     alloc: Global,
-    config: &Config,
+    lists: &ListsByClass<'_>,
     class: &ClassDef,
 ) -> Result<Option<ClassLimit>, AllocError>
-    ensures { IfOk result (λ found. found ≡ limits.class_limit config.now class.now) }
+    ensures { IfOk result (λ found. found ≡ limits.class_limit lists.now class.now) }
 {
     if let Some(limit) = passed(LimitKind::TextTooLong, 16_000, None, text_number(class)) {
         return Ok(Some(limit));
@@ -146,7 +147,7 @@ fn class_limit(
     ) {
         return Ok(Some(limit));
     }
-    let number = pool_number(alloc, config, class)?;
+    let number = pool_number(alloc, lists, class)?;
     if let Some(limit) = passed(LimitKind::PoolFull, 65_535, None, number) {
         return Ok(Some(limit));
     }
@@ -154,15 +155,17 @@ fn class_limit(
 }
 
 /// The first number of size of classes that passes its bound: class by class, within a class in the order of
-/// `LimitKind`, and for a kind that is of methods the methods in file order. Takes memory for what a class names.
+/// `LimitKind`, and for a kind that is of methods the methods in file order. Takes memory for what a class names, and
+/// once for the classes that the lists name.
 #[tactic(auto, unfolding(crate::specs::Limits::first_limit), using(crate::proofs::First::none_yet, crate::proofs::First::none_more, crate::proofs::First::none_in_all))]
 pub fn check_limits(alloc: Global, classes: &[ClassDef], config: &Config) -> Result<(), LimitStop>
     requires { length classes.now ≤ 1001000 }
     ensures tells { limits.Tells result (limits.first_limit config.now classes.now) }
     ensures of_size { IfErr result limits.IsOfSize }
 {
+    let lists = ListsByClass::of(alloc, config)?;
     for (at, class) in classes.iter().enumerate() {
-        if let Some(limit) = class_limit(alloc, config, class)? {
+        if let Some(limit) = class_limit(alloc, &lists, class)? {
             return Err(LimitStop::Limit {
                 kind: limit.kind,
                 class: at as u32,

@@ -4,6 +4,7 @@
 mod check;
 mod key;
 mod limit;
+mod lists_by_class;
 mod measure;
 mod method;
 mod names;

@@ -7,6 +7,7 @@ ghost use Rattle.size_limits.specs.Items.{Item, ClassItem, FieldItem, MethodItem
 ghost use Rattle.size_limits.specs.Pool as pool;
 
 use crate::key::Key;
+use crate::lists_by_class::ListsByClass;
 use crate::measure::{Measure, sum_of};
 use class_model::{
     ClassDef, CodeDef, Constant, FieldDef, FieldRef, Frame, Handler, Insn, JType, MethodDef,
@@ -14,7 +15,6 @@ use class_model::{
 };
 use indexmap::IndexSet;
 use lists::Name;
-use run_state::Config;
 use std::alloc::{AllocError, Global};
 use std::marker::Model;
 
@@ -348,21 +348,6 @@ impl Measure<MethodDef> for Throws {
     }
 }
 
-/// The listed sources and sinks of a class.
-fn listed(config: &Config, class: &ClassDef) -> u64
-    ensures { result ≡ told (pool.listed_letter config.now class.now) }
-{
-    let name = &class.name;
-    let sources = config.sources.as_slice();
-    let sinks = config.sinks.as_slice();
-    let sources = sources
-        .iter()
-        .filter(|source| source.class == *name)
-        .count() as u64;
-    let sinks = sinks.iter().filter(|sink| sink.class == *name).count() as u64;
-    sources.saturating_add(sinks)
-}
-
 /// So much for each.
 fn times(factor: u64, number: u64) -> u64
     ensures { result ≡ told (factor * number) }
@@ -393,13 +378,13 @@ fn throws_worth(class: &ClassDef) -> u64
 }
 
 /// What the declarations of a class add to the number.
-fn declared(config: &Config, class: &ClassDef) -> u64
-    ensures { result ≡ told (pool.declared_worth config.now class.now) }
+fn declared(lists: &ListsByClass<'_>, class: &ClassDef) -> u64
+    ensures { result ≡ told (pool.declared_worth lists.now class.now) }
 {
     members_worth(class)
         .saturating_add(types_worth(class))
         .saturating_add(throws_worth(class))
-        .saturating_add(times(4, listed(config, class)))
+        .saturating_add(times(4, lists.listed(class)))
         .saturating_add(600)
 }
 
@@ -408,12 +393,12 @@ fn declared(config: &Config, class: &ClassDef) -> u64
 #[tactic(auto, using(crate::proofs::Noted::pool_number_is))]
 pub(crate) fn pool_number(
     alloc: Global,
-    config: &Config,
+    lists: &ListsByClass<'_>,
     class: &ClassDef,
 ) -> Result<u64, AllocError>
-    ensures { IfOk result (λ number. number ≡ told (pool.pool_number config.now class.now)) }
+    ensures { IfOk result (λ number. number ≡ told (pool.pool_number lists.now class.now)) }
 {
     let mut count = PoolCount::new(alloc);
     note_class(alloc, &mut count, class)?;
-    Ok(count.worth.saturating_add(declared(config, class)))
+    Ok(count.worth.saturating_add(declared(lists, class)))
 }
