@@ -1,0 +1,13 @@
+pub mod Ways
+pub mod Alike
+pub mod Superclasses
+pub mod Methods
+pub mod Fields
+pub mod Lineage
+pub mod Initial
+pub mod Places
+pub mod FieldMembers
+pub mod Distinct
+pub mod Statics
+pub mod Layouts
+pub mod KnownNames
