@@ -1,0 +1,5 @@
+pub mod Standing
+pub mod Starts
+pub mod Steps
+pub mod Feeding
+pub mod Telling
