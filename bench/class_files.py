@@ -157,6 +157,52 @@ def class_of_many_frames(count):
     return whole(pool, "M", "java/lang/Object", [], [method])
 
 
+def called(pool, class_name, name, descriptor):
+    """An `invokestatic` of a method."""
+    return b"\xb8" + struct.pack(">H", pool.method(class_name, name, descriptor))
+
+
+def narrowing():
+    """A class whose stores and returns keep less of an int than they are given: 300 as a byte, 70000 as a char, 2 as a boolean."""
+    pool = Pool()
+    letter = field_entry(pool, "Main", "letter", "B")
+    wide = struct.pack(">H", pool.add(b"\x03" + struct.pack(">i", 70_000)))
+    code = b"\x11" + struct.pack(">h", 300) + b"\xb3" + struct.pack(">H", letter)
+    code += b"\xb2" + struct.pack(">H", letter) + called(pool, "sys/Native", "write", "(I)V")
+    for name, descriptor, shift in (("byte", "()B", 0), ("char", "()C", 16), ("boolean", "()Z", 0)):
+        code += called(pool, "Main", name, descriptor) + bytes([0x10, shift, 0x7A])
+        code += called(pool, "sys/Native", "write", "(I)V")
+    methods = [
+        method_info(pool, 0x0009, "main", "([Ljava/lang/String;)V", 2, 1, code + b"\xb1"),
+        method_info(pool, 0x0009, "byte", "()B", 1, 0, b"\x11" + struct.pack(">h", 300) + b"\xac"),
+        method_info(pool, 0x0009, "char", "()C", 1, 0, b"\x13" + wide + b"\xac"),
+        method_info(pool, 0x0009, "boolean", "()Z", 1, 0, b"\x05\xac"),
+    ]
+    field = struct.pack(">HHHH", 0x0009, pool.text("letter"), pool.text("B"), 0)
+    return whole(pool, "Main", "java/lang/Object", [field], methods)
+
+
+def wrong_interface():
+    """A class that calls a method of an interface on an object whose class does not implement it, and the interface."""
+    pool = Pool()
+    owner = pool.class_("Shape")
+    pair = pool.add(b"\x0c" + struct.pack(">HH", pool.text("draw"), pool.text("()V")))
+    draw = pool.add(b"\x0b" + struct.pack(">HH", owner, pair))
+    code = b"\xbb" + struct.pack(">H", pool.class_("Main")) + b"\x59\xb7" + struct.pack(">H", pool.method("Main", "<init>", "()V"))
+    code += b"\xb9" + struct.pack(">HBB", draw, 1, 0) + b"\xb1"
+    methods = [
+        constructor(pool, "java/lang/Object"),
+        method_info(pool, 0x0009, "main", "([Ljava/lang/String;)V", 2, 1, code),
+    ]
+    main = whole(pool, "Main", "java/lang/Object", [], methods)
+    pool = Pool()
+    this, above = pool.class_("Shape"), pool.class_("java/lang/Object")
+    method = struct.pack(">HHHH", 0x0401, pool.text("draw"), pool.text("()V"), 0)
+    shape = struct.pack(">IHH", 0xCAFEBABE, 0, 52) + pool.bytes()
+    shape += struct.pack(">HHHHHH", 0x0601, this, above, 0, 0, 1) + method + struct.pack(">H", 0)
+    return main, shape
+
+
 SETS = {
     "a chain": link_of_a_chain,
     "each by itself": class_by_itself,
