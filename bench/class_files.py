@@ -148,6 +148,12 @@ def class_with_references(number, count):
     return whole(pool, name_of(number), "java/lang/Object", [field], methods)
 
 
+def class_refused_by_its_types(name):
+    """A class that is well linked, and whose only method returns a number that is not there."""
+    pool = Pool()
+    return whole(pool, name, "java/lang/Object", [], [method_info(pool, 0x0009, "f", "()I", 1, 0, b"\xac")])
+
+
 def class_of_many_frames(count):
     """A class with one method of `count` frames, six bytes apart."""
     pool = Pool()
