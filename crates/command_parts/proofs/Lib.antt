@@ -1,4 +1,5 @@
 pub mod ClassFileLists
 pub mod Fronts
+pub mod Joined
 pub mod WrittenFiles
 pub mod Said

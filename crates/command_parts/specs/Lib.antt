@@ -6,3 +6,4 @@ pub mod Told
 pub mod Looks
 pub mod Folders
 pub mod Writing
+pub mod RunLines

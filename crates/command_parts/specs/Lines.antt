@@ -20,6 +20,10 @@ list_fault_line dir = codes "read fault: list " ++ dir ++ 10 ∷ []
 abbrev pub read_fault_line : List ℕ → List ℕ
 read_fault_line path = codes "read fault: " ++ path ++ 10 ∷ []
 
+-- standard input could not be read
+abbrev pub input_fault_line : List ℕ
+input_fault_line = ended (codes "read fault: input")
+
 -- the file of this path could not be written
 abbrev pub write_fault_line : List ℕ → List ℕ
 write_fault_line path = codes "write fault: " ++ path ++ 10 ∷ []
@@ -46,6 +50,10 @@ not_built_line class = codes "refused: not built: " ++ text_bytes class ++ 10 �
 -- there is no file of this path
 abbrev pub no_file_line : List ℕ → List ℕ
 no_file_line path = codes "refused: no file: " ++ path ++ 10 ∷ []
+
+-- no class of this name has a `main` that can be run; the name stands as in a class file (JVMS 4.4.7)
+abbrev pub no_main_line : List ℕ → List ℕ
+no_main_line main = codes "refused: no main: " ++ text_bytes main ++ 10 ∷ []
 
 -- the output folder of this path holds a file
 abbrev pub not_empty_line : List ℕ → List ℕ

@@ -3,13 +3,14 @@ use Rattle.std.specs.Prelude.{ℕ, ◌≤◌, Option, Result, IfErr, ⊤}
 use Rattle.outside_io.specs.Causes.{Rose}
 use Rattle.outside_io.specs.Files.{Files, Stay}
 use Rattle.command_parts.specs.declared.stop.Stop.{Stop}
-use Rattle.command_parts.specs.declared.stop.Stop.TheVariants.{Usage, ListFault, ReadFault, WriteFault, OutputFault}
+use Rattle.command_parts.specs.declared.stop.Stop.TheVariants.{Usage, ListFault, ReadFault, InputFault, WriteFault, OutputFault}
 
 -- a look at a folder answers a fault only where the count of failed reads, r and then s, rose; nothing is written
 abbrev pub LookCause : Stop → (r s : ℕ) → Type 0
 LookCause Usage r s = ⊥
 LookCause (ListFault dir) r s = Rose r s
 LookCause (ReadFault path) r s = Rose r s
+LookCause InputFault r s = ⊥
 LookCause (WriteFault path) r s = ⊥
 LookCause OutputFault r s = ⊥
 LookCause _ r s = ⊤

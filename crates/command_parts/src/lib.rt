@@ -1,5 +1,5 @@
-//! What commands share: reading the class files of a folder, seeing that one is empty, writing files, and
-//! the line that a command leaves where it stops.
+//! What commands share: reading the class files of a folder, seeing that one is empty, writing files, the
+//! line that a command leaves where it stops, and the lines of a run.
 #![tactic(auto)]
 
 mod kinds;
@@ -8,6 +8,7 @@ mod lines;
 mod load_lines;
 mod look;
 mod reading;
+mod runs;
 mod stop;
 mod write;
 
@@ -16,6 +17,7 @@ pub use lines::{put, tell};
 pub use load_lines::load_line;
 pub use look::{read_named, see_empty};
 pub use reading::class_files;
+pub use runs::{run_lines, run_status};
 pub use stop::Stop;
 pub use write::{placed, write_files};
 

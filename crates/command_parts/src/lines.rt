@@ -22,8 +22,9 @@ fn status_of(stop: &Stop) -> u8
         | Stop::ConfigNotBuilt
         | Stop::NotBuilt(_)
         | Stop::NoFile(_)
+        | Stop::NoMain(_)
         | Stop::NotEmpty(_) => 2,
-        Stop::ListFault(_) | Stop::ReadFault(_) => 3,
+        Stop::ListFault(_) | Stop::ReadFault(_) | Stop::InputFault => 3,
         Stop::WriteFault(_) | Stop::OutputFault => 4,
         Stop::Memory => 5,
         Stop::TooManyFiles(_) | Stop::FileTooLong(_) => 10,
@@ -98,6 +99,7 @@ fn say_stop<E: ByteSink>(err: &mut E, stop: &Stop) -> bool
         Stop::Usage => say_text(err, USAGE),
         Stop::ListFault(dir) => say_path(err, "read fault: list ", dir),
         Stop::ReadFault(path) => say_path(err, "read fault: ", path),
+        Stop::InputFault => say_text(err, "read fault: input"),
         Stop::WriteFault(path) => say_path(err, "write fault: ", path),
         Stop::OutputFault => say_text(err, "write fault: out"),
         Stop::TooManyFiles(dir) => say_path(err, "too many files: ", dir),
@@ -106,6 +108,7 @@ fn say_stop<E: ByteSink>(err: &mut E, stop: &Stop) -> bool
         Stop::ConfigNotBuilt => say_text(err, "refused: config: not built"),
         Stop::NotBuilt(class) => say_class(err, "refused: not built: ", class),
         Stop::NoFile(path) => say_path(err, "refused: no file: ", path),
+        Stop::NoMain(main) => say_class(err, "refused: no main: ", main),
         Stop::NotEmpty(dir) => say_path(err, "refused: not empty: ", dir),
         Stop::Memory => say_text(err, "out of memory"),
     }

@@ -16,7 +16,7 @@ use std::alloc::{AllocError, Global};
 use type_rows::VerifyRule;
 
 /// Puts a text behind a line.
-fn add(line: &mut Vec<u8>, text: &str) -> Result<(), AllocError>
+pub(crate) fn add(line: &mut Vec<u8>, text: &str) -> Result<(), AllocError>
     ensures { OnOk result (line.new.items ≡ line.old.items ++ text.now) }
 {
     line.extend_from_slice(text.as_bytes())?;
@@ -24,7 +24,7 @@ fn add(line: &mut Vec<u8>, text: &str) -> Result<(), AllocError>
 }
 
 /// Puts a name behind a line, as it stands in a class file.
-fn add_name(alloc: Global, line: &mut Vec<u8>, name: &Name) -> Result<(), AllocError>
+pub(crate) fn add_name(alloc: Global, line: &mut Vec<u8>, name: &Name) -> Result<(), AllocError>
     ensures { OnOk result (line.new.items ≡ line.old.items ++ text_bytes name.now) }
 {
     let text = units_text(alloc, name.as_units())?;

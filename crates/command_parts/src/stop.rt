@@ -16,6 +16,8 @@ pub enum Stop {
     ListFault(Path),
     /// A file could not be read.
     ReadFault(Path),
+    /// Standard input could not be read.
+    InputFault,
     /// A file could not be written.
     WriteFault(Path),
     /// Standard output did not take what was written to it.
@@ -32,6 +34,8 @@ pub enum Stop {
     NotBuilt(Name),
     /// A file that was to be read is not there.
     NoFile(Path),
+    /// The class of this name has no `main` that can be run, or there is none of this name.
+    NoMain(Name),
     /// The output folder holds a file.
     NotEmpty(Path),
     Memory,
