@@ -2,13 +2,20 @@
 use Rattle.std.proofs.Common.{◌≡◌, ◌≢◌, ◌∙◌, ℕ, ◌<◌, ◌≤◌, ◌==◌, ◌&&◌, String, Global, string_bytes, string_len, map, take, length, get_or, subst, arith, List, [], ◌∷◌, ◌++◌, Bool, true, false, rules, refl, sym, ap, codes, if◌then◌else◌}
 use Rattle.std.specs.Prelude.{Option, Some, None, MatchOption}
 use Rattle.std.specs.Str.{IsUtf8}
+use Rattle.std.specs.Str.Parse.{digits_value}
 use Rattle.std.proofs.lemmas.Bool.{eqb-true}
 use Rattle.std.proofs.lemmas.Str.{IsUtf8-take, IsUtf8-from_ascii, IsCharBoundary-at_seam}
 use Rattle.std.proofs.lemmas.Str.Ascii.{IsAscii-from_all}
-use Rattle.phosphor_top.specs.Commands.{Command, Instrument, Check, Paths, Spells, SpellsCheck, SpellsInstrument, IsCheck, NamesFolder, without_slashes, is_nothing}
+use Rattle.phosphor_top.specs.Commands.{Command, Instrument, Check, Run, Paths, Program, Spells, SpellsCheck, SpellsInstrument, SpellsRun, IsCheck, NamesFolder, AreSteps, class_named, without_slashes, is_nothing}
 
 same_fields : (a b c x y z : List ℕ) → a ≡ x → b ≡ y → c ≡ z → ◌≡◌ {A = Paths} (record { input = a; output = b; config = c }) (record { input = x; output = y; config = z })
 same_fields a b c x y z p q r = cc
+
+same_program : (a b : List ℕ) (m : ℕ) (x y : List ℕ) (n : ℕ) → a ≡ x → b ≡ y → m ≡ n → ◌≡◌ {A = Program} (record { dir = a; main = b; steps = m }) (record { dir = x; main = y; steps = n })
+same_program a b m x y n p q r = cc
+
+first : (a b c d w x y z : List ℕ) → a ∷ b ∷ c ∷ d ∷ [] ≡ w ∷ x ∷ y ∷ z ∷ [] → a ≡ w
+first a b c d w x y z e = cc
 
 second : (a b c d w x y z : List ℕ) → a ∷ b ∷ c ∷ d ∷ [] ≡ w ∷ x ∷ y ∷ z ∷ [] → b ≡ x
 second a b c d w x y z e = cc
@@ -36,6 +43,23 @@ one_paths words c d s t =
 pub one_dir : (words : List (List ℕ)) (c d : List ℕ) → SpellsCheck words c → SpellsCheck words d → c ≡ d
 one_dir words c d s t = s.named.is ∙ ap without_slashes (second_of_two _ _ _ _ (sym s.words_are ∙ t.words_are)) ∙ sym t.named.is
 
+pub one_program : (words : List (List ℕ)) (c d : Program) → SpellsRun words c → SpellsRun words d → c ≡ d
+one_program words c d s t =
+    let e = sym s.words_are ∙ t.words_are in
+    same_program c.dir c.main c.steps d.dir d.main d.steps
+    (s.dir_named.is ∙ ap without_slashes (second _ _ _ _ _ _ _ _ e) ∙ sym t.dir_named.is)
+    (s.main_named ∙ ap class_named (third _ _ _ _ _ _ _ _ e) ∙ sym t.main_named)
+    (s.steps_are.is ∙ ap (digits_value 10) (fourth _ _ _ _ _ _ _ _ e) ∙ sym t.steps_are.is)
+
+pub never_run_and_check : (words : List (List ℕ)) (program : Program) (dir : List ℕ) → SpellsRun words program → SpellsCheck words dir → ⊥
+never_run_and_check words program dir s t = four_are_not_two _ _ _ _ _ _ (sym s.words_are ∙ t.words_are)
+
+names_differ : codes "instrument" ≢ codes "run"
+names_differ e = let lengths : 10 ≡ 3 = ap length e in omega (arith, lengths)
+
+pub never_run_and_instrument : (words : List (List ℕ)) (program : Program) (paths : Paths) → SpellsRun words program → SpellsInstrument words paths → ⊥
+never_run_and_instrument words program paths s t = names_differ (sym (first _ _ _ _ _ _ _ _ (sym s.words_are ∙ t.words_are)))
+
 pub never_both : (words : List (List ℕ)) (paths : Paths) (dir : List ℕ) → SpellsInstrument words paths → SpellsCheck words dir → ⊥
 never_both words paths dir s t = four_are_not_two _ _ _ _ _ _ (sym s.words_are ∙ t.words_are)
 
@@ -45,6 +69,11 @@ one_command words (Instrument c) (Instrument d) s t = ap Instrument (one_paths w
 one_command words (Instrument c) (Check d) s t = absurd (never_both words c d s t)
 one_command words (Check c) (Instrument d) s t = absurd (never_both words d c t s)
 one_command words (Check c) (Check d) s t = ap Check (one_dir words c d s t)
+one_command words (Instrument c) (Run d) s t = absurd (never_run_and_instrument words d c t s)
+one_command words (Check c) (Run d) s t = absurd (never_run_and_check words d c t s)
+one_command words (Run c) (Instrument d) s t = absurd (never_run_and_instrument words c d s t)
+one_command words (Run c) (Check d) s t = absurd (never_run_and_check words c d s t)
+one_command words (Run c) (Run d) s t = ap Run (one_program words c d s t)
 
 -- a slash at the end goes
 pub slash_goes : (front : List ℕ) → without_slashes (front ++ 47 ∷ []) ≡ without_slashes front
@@ -136,3 +165,23 @@ pub check_word : {A : Type 0} (found : Option A) (now : A → List ℕ) (words :
     → MatchOption found ((dir : List ℕ) → NamesFolder b dir → ⊥) (λ dir. NamesFolder b (now dir)) → MatchOption found (IsCheck words → ⊥) (λ dir. SpellsCheck words (now dir))
 check_word None now words a b are name none = λ spells. none spells.0 (dir_spelled words a b spells.0 are spells.1)
 check_word (Some dir) now words a b are name named = check_spelled words a b (now dir) are name named
+
+pub folder_spelled : (words : List (List ℕ)) (a b c d : List ℕ) (program : Program) → words ≡ a ∷ b ∷ c ∷ d ∷ [] → SpellsRun words program → NamesFolder b program.dir
+folder_spelled words a b c d program are spells = subst (λ (word : List ℕ). NamesFolder word program.dir) (second _ _ _ _ _ _ _ _ (sym spells.words_are ∙ are)) spells.dir_named
+
+pub steps_spelled : (words : List (List ℕ)) (a b c d : List ℕ) (program : Program) → words ≡ a ∷ b ∷ c ∷ d ∷ [] → SpellsRun words program → AreSteps d program.steps
+steps_spelled words a b c d program are spells = subst (λ (word : List ℕ). AreSteps word program.steps) (fourth _ _ _ _ _ _ _ _ (sym spells.words_are ∙ are)) spells.steps_are
+
+-- four words that were told apart spell `run`
+pub run_spelled : (words : List (List ℕ)) (a b c d dir main : List ℕ) (steps : ℕ) → words ≡ a ∷ b ∷ c ∷ d ∷ [] → a ≡ codes "run" → NamesFolder b dir → main ≡ c → c ≢ [] → AreSteps d steps
+    → SpellsRun words (record { dir = dir; main = class_named main; steps = steps })
+run_spelled words a b c d dir main steps are name folder is some number = record {
+  dir = b;
+  main = c;
+  steps = d;
+  words_are = are ∙ ap (λ (word : List ℕ). word ∷ b ∷ c ∷ d ∷ []) name;
+  dir_named = folder;
+  main_some = some;
+  main_named = ap class_named is;
+  steps_are = number;
+}

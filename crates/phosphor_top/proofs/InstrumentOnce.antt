@@ -7,18 +7,14 @@ use Rattle.run_state.specs.declared.config.Config.{Config}
 use Rattle.profile_check.specs.declared.profile.Names.TheVariants as names
 use Rattle.first_form.specs.FirstSet.{IsFirstSet}
 use Rattle.first_form.proofs.FirstSets.{told_once}
-use Rattle.set_loader.specs.declared.file.File.{File}
-use Rattle.set_loader.specs.Loads.{Loads}
-use Rattle.set_loader.proofs.Refusals.{one_set}
 use Rattle.command_parts.specs.Folders.{IsEmpty, RefusesFull}
 use Rattle.command_parts.specs.declared.stop.Stop.{Stop}
 use Rattle.command_parts.specs.declared.stop.Stop.TheVariants.{ListFault, NotEmpty, NotBuilt, Memory}
 use Rattle.phosphor_top.specs.Commands.{Paths}
-use Rattle.phosphor_top.specs.Loading.{LoadsFrom}
 use Rattle.phosphor_top.specs.Instrument.{Passes, Refuses, RefusesSet, TellsNotBuilt}
 use Rattle.phosphor_top.specs.Verdict.{IsVerdict}
-use Rattle.phosphor_top.proofs.FolderOnce.{empty_or_full, one_list}
-use Rattle.phosphor_top.proofs.LoadOnce.{load_or_not, load_once}
+use Rattle.phosphor_top.proofs.FolderOnce.{empty_or_full}
+use Rattle.phosphor_top.proofs.LoadOnce.{load_or_not, load_once, one_loaded}
 use Rattle.phosphor_top.proofs.ConfigOnce.{config_or_not, config_once}
 
 -- ---- the folder that is written
@@ -42,11 +38,6 @@ full_once files dir Memory other is also x y = absurd is
 full_once files dir _ other is also x y = absurd x
 
 -- ---- the set
-
-same_set : (files : Files) (dir : List ℕ) (s t : List ClassDef) → LoadsFrom names.Source files dir s → LoadsFrom names.Source files dir t → s ≡ t
-same_set files dir s t a b =
-    let same : a.list ≡ b.list = one_list files dir a.list b.list a.read b.read in
-    one_set names.Source b.list s t (subst (λ (fs : List File). Loads names.Source fs s) same a.loads) b.loads
 
 built_or_not : (set : List ClassDef) (stop : Stop) → IsVerdict stop → IsFirstSet set → RefusesSet set stop → ⊥
 built_or_not set (NotBuilt name) is built refuses = refuses.first.not_first built
@@ -79,7 +70,7 @@ passes_or_refused paths files set config stop is passes (inl load) = load_or_not
 passes_or_refused paths files set config stop is passes (inr (inl lists)) = config_or_not files paths.config config stop is passes.ready.lists lists.2
 passes_or_refused paths files set config stop is passes (inr (inr (inl full))) = empty_or_not files paths.output stop is passes.ready.empty full.4
 passes_or_refused paths files set config stop is passes (inr (inr (inr other))) =
-    built_or_not set stop is passes.built (subst (λ (s : List ClassDef). RefusesSet s stop) (same_set files paths.input other.0 set other.2.loads passes.ready.loads) other.3)
+    built_or_not set stop is passes.built (subst (λ (s : List ClassDef). RefusesSet s stop) (one_loaded names.Source files paths.input other.0 set other.2.loads passes.ready.loads) other.3)
 
 -- it is refused once: from each part that refuses, itself first
 pub refused_by_one : (paths : Paths) (files : Files) (stop other : Stop) → IsVerdict stop → IsVerdict other → Refuses paths files stop → Refuses paths files other → stop ≡ other
@@ -99,4 +90,4 @@ refused_by_one paths files stop other is also (inr (inr (inr a))) (inl b) = absu
 refused_by_one paths files stop other is also (inr (inr (inr a))) (inr (inl b)) = absurd (config_or_not files paths.config a.1 other also a.2.lists b.2)
 refused_by_one paths files stop other is also (inr (inr (inr a))) (inr (inr (inl b))) = absurd (empty_or_not files paths.output other also a.2.empty b.4)
 refused_by_one paths files stop other is also (inr (inr (inr a))) (inr (inr (inr b))) =
-    set_once b.0 stop other is also (subst (λ (s : List ClassDef). RefusesSet s stop) (same_set files paths.input a.0 b.0 a.2.loads b.2.loads) a.3) b.3
+    set_once b.0 stop other is also (subst (λ (s : List ClassDef). RefusesSet s stop) (one_loaded names.Source files paths.input a.0 b.0 a.2.loads b.2.loads) a.3) b.3

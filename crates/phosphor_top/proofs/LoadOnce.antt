@@ -5,13 +5,19 @@ use Rattle.class_model.specs.declared.class.ClassDef.{ClassDef}
 use Rattle.profile_check.specs.declared.profile.Names.{Names}
 use Rattle.set_loader.specs.declared.file.File.{File}
 use Rattle.set_loader.specs.Loads.{Loads}
-use Rattle.set_loader.proofs.Refusals.{loads_or_refused, one_refusal}
+use Rattle.set_loader.proofs.Refusals.{loads_or_refused, one_refusal, one_set}
 use Rattle.command_parts.specs.LoadLines.{load_line}
 use Rattle.command_parts.specs.declared.stop.Stop.{Stop}
 use Rattle.command_parts.specs.declared.stop.Stop.TheVariants.{ListFault, ReadFault, TooManyFiles, FileTooLong, NotLoaded, Memory}
 use Rattle.phosphor_top.specs.Loading.{LoadsFrom, TellsLoad, IsNotLoaded, RefusesLoad}
 use Rattle.phosphor_top.specs.Verdict.{IsVerdict}
 use Rattle.phosphor_top.proofs.FolderOnce.{one_list, few_or_many, read_or_long, one_long}
+
+-- the set that a folder loads as is one
+pub one_loaded : (names : Names) (files : Files) (dir : List ℕ) (s t : List ClassDef) → LoadsFrom names files dir s → LoadsFrom names files dir t → s ≡ t
+one_loaded names files dir s t a b =
+    let same : a.list ≡ b.list = one_list files dir a.list b.list a.read b.read in
+    one_set names b.list s t (subst (λ (fs : List File). Loads names fs s) same a.loads) b.loads
 
 loads_or_told : (names : Names) (files : Files) (dir line : List ℕ) (set : List ClassDef) → LoadsFrom names files dir set → IsNotLoaded names files dir line → ⊥
 loads_or_told names files dir line set loads told =

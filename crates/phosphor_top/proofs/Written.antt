@@ -1,52 +1,55 @@
 -- What standard output gets.
-use Rattle.std.proofs.Common.{◌≡◌, ◌≢◌, ◌∙◌, ℕ, List, ◌++◌, length, Option, Some, None, sym, ap, subst, arith}
-use Rattle.std.specs.Prelude.{Result, Ok, Err, IfErr, IfSome}
+use Rattle.std.proofs.Common.{◌≡◌, ◌≢◌, ◌∙◌, ℕ, List, ◌++◌, length, Option, Some, None, sym, ap, subst, arith, inl, inr}
+use Rattle.std.specs.Prelude.{Result, Ok, Err, IfErr, IfOk, IfSome}
 use Rattle.std.proofs.lemmas.List.{take_all, append-nil}
 use Rattle.outside_io.specs.Files.{Files}
 use Rattle.command_parts.specs.Lines.{ok_line}
+use Rattle.command_parts.specs.Stops.{status_of}
 use Rattle.command_parts.specs.Told.{Took, TookFront}
 use Rattle.command_parts.specs.declared.stop.Stop.{Stop}
 use Rattle.command_parts.specs.declared.stop.Stop.TheVariants.{Usage, OutputFault}
-use Rattle.phosphor_top.specs.Commands.{Command, Check, SpellsCheck}
-use Rattle.phosphor_top.specs.Verdict.{Passes}
-use Rattle.phosphor_top.specs.Endings.{Ends, IfTold, Obeys}
-use Rattle.phosphor_top.specs.Answers.{HasFront, IsBarred}
+use Rattle.phosphor_top.specs.declared.done.Done.{Done}
+use Rattle.phosphor_top.specs.declared.done.Done.TheVariants.{Silent, Ran}
+use Rattle.phosphor_top.specs.Commands.{Command, Check, Run, Program, SpellsCheck, SpellsRun, IsRun}
+use Rattle.phosphor_top.specs.Streams.{Streams}
+use Rattle.phosphor_top.specs.Verdict.{IsVerdict}
+use Rattle.phosphor_top.specs.Endings.{Ends, IfTold, IsSilent, Obeys, OnlyRun}
+use Rattle.phosphor_top.specs.Answers.{HasConsole, HasFront, Tells}
 use Rattle.phosphor_top.specs.Check as check
-use Rattle.phosphor_top.proofs.Commanded.{one_command}
+use Rattle.phosphor_top.specs.Run as run
+use Rattle.phosphor_top.proofs.Commanded.{one_command, never_run_and_check}
 use Rattle.phosphor_top.proofs.VerdictOnce.{passes_or_refused, one_count}
-use Rattle.phosphor_top.proofs.Stops.{ended, done_passes, output_passes}
 
 -- a sink that is as before holds what it held
-pub quiet : {A : Type 0} (held : A → Option (List ℕ)) (old new : A) (outcome : Result (Unit {0}) Stop) → IfErr outcome (λ stop. stop ≢ OutputFault → new ≡ old)
-    → IfErr outcome (λ stop. stop ≢ OutputFault → held new ≡ held old)
-quiet held old new (Ok done) silent = tt
-quiet held old new (Err stop) silent = λ apart. ap held (silent apart)
+pub quiet : {A : Type 0} (P : Type 0) (held : A → Option (List ℕ)) (old new : A) (outcome : Result Done Stop) → IfErr outcome (λ stop. stop ≢ OutputFault → P → new ≡ old)
+    → IfErr outcome (λ stop. stop ≢ OutputFault → P → held new ≡ held old)
+quiet P held old new (Ok done) silent = tt
+quiet P held old new (Err stop) silent = λ apart p. ap held (silent apart p)
 
--- where the verdict refuses, it did not fail
-no_output : (words : List (List ℕ)) (old new : Files) (before now : Option (List ℕ)) (stop : Stop) → Obeys words old new before now (Err stop) → IsBarred words old → stop ≢ OutputFault
-no_output words old new before now OutputFault obeys barred e =
-    let by = ended words old new before now OutputFault (λ is. cc) obeys in
-    let one : by.0 ≡ barred.0 = one_command words by.0 barred.0 by.1 barred.1 in
-    passes_or_refused barred.0 old barred.2 barred.3 (subst (λ (c : Command). Passes c old) one (output_passes by.0 old new before now by.2)) barred.4
-no_output words old new before now _ obeys barred e = cc
+-- where a check passes, the verdict does not refuse it; P is that nothing was written
+pub check_barred : (P : Type 0) (dir : List ℕ) (m : Option Files) (count : ℕ) → IfSome m (λ files. check.Passes dir files count)
+    → IfSome m (λ files. (refusal : Stop) → IsVerdict refusal → check.Refuses dir files refusal → P)
+check_barred P dir None count passes = tt
+check_barred P dir (Some files) count passes = λ refusal is refuses. absurd (passes_or_refused (Check dir) files refusal is (count, passes) refuses)
 
--- P is that nothing was written
-pub barred : (P : Type 0) (words : List (List ℕ)) (m n : Option Files) (before now : Option (List ℕ)) (outcome : Result (Unit {0}) Stop) → IfErr outcome (λ stop. stop ≢ OutputFault → P)
-    → IfTold m n (λ old new. Obeys words old new before now outcome) → IfSome m (λ files. IsBarred words files → P)
-barred P words None n before now outcome quiet obeys = tt
-barred P words (Some old) None before now outcome quiet obeys = absurd obeys
-barred P words (Some old) (Some new) before now (Ok done) quiet obeys = λ bar.
-    absurd (passes_or_refused bar.0 old bar.2 bar.3 (subst (λ (c : Command). Passes c old) (one_command words obeys.0 bar.0 obeys.1 bar.1) (done_passes obeys.0 old new before now done obeys.2)) bar.4)
-barred P words (Some old) (Some new) before now (Err stop) quiet obeys = λ bar. quiet (no_output words old new before now stop obeys bar)
+four_of : (stop : Stop) (e f : Option (List ℕ)) (r s status : ℕ) → stop ≡ OutputFault → Tells (Err stop) e f r s status → status ≡ 4
+four_of stop e f r s status is tells = elim tells.1 [ inl t ↦ t.0 ∙ ap status_of is | inr t ↦ t.0 ]
+
+-- nothing was written at a status but 0 and 4, a run aside; P is that nothing was written
+pub silent : (P : Type 0) (words : List (List ℕ)) (outcome : Result Done Stop) (e f : Option (List ℕ)) (r s status : ℕ) → Tells outcome e f r s status → IfOk outcome (OnlyRun words)
+    → IfErr outcome (λ stop. stop ≢ OutputFault → (IsRun words → ⊥) → P) → status ≢ 0 → status ≢ 4 → (IsRun words → ⊥) → P
+silent P words (Ok Silent) e f r s status tells only quiet zero four apart = absurd (zero tells.0)
+silent P words (Ok (Ran told lines)) e f r s status tells only quiet zero four apart = absurd (apart only)
+silent P words (Err stop) e f r s status tells only quiet zero four apart = quiet (λ is. four (four_of stop e f r s status is tells)) apart
 
 -- ---- the line of a check
 
-took_front : (before now : Option (List ℕ)) (text : List ℕ) → Took before now text → TookFront before now text
+pub took_front : (before now : Option (List ℕ)) (text : List ℕ) → Took before now text → TookFront before now text
 took_front None now text took = tt
 took_front (Some old) None text took = absurd took
 took_front (Some old) (Some new) text took = (length text, took ∙ ap (λ (xs : List ℕ). old ++ xs) (sym (take_all (length text) text (omega arith))))
 
-same_front : (before now : Option (List ℕ)) (text : List ℕ) → now ≡ before → TookFront before now text
+pub same_front : (before now : Option (List ℕ)) (text : List ℕ) → now ≡ before → TookFront before now text
 same_front None now text same = tt
 same_front (Some old) None text same = absurd cc
 same_front (Some old) (Some new) text same = let is : new ≡ old = cc in (0, is ∙ sym (append-nil old))
@@ -59,13 +62,36 @@ front_of dir old new before now count (Err OutputFault) ends passes quiet =
     subst (λ (k : ℕ). TookFront before now (ok_line k)) (one_count dir old ends.answers.0 count ends.answers.1 passes) ends.answers.2
 front_of dir old new before now count (Err _) ends passes quiet = same_front before now (ok_line count) (quiet (λ is. cc))
 
-check_ends : (words : List (List ℕ)) (old new : Files) (before now : Option (List ℕ)) (dir : List ℕ) (outcome : Result (Unit {0}) Stop) → SpellsCheck words dir → Obeys words old new before now outcome
-    → check.Ends dir old new before now outcome
+-- what a check leaves, where the words spell one
+check_ends : (words : List (List ℕ)) (old new : Files) (before now : Streams) (dir : List ℕ) (outcome : Result Done Stop) → SpellsCheck words dir → Obeys words old new before now outcome
+    → IsSilent (check.Ends dir old new before.output now.output) outcome
 check_ends words old new before now dir (Err Usage) spells obeys = absurd (obeys.1 (Check dir) spells)
 check_ends words old new before now dir outcome spells obeys = subst (λ (c : Command). Ends c old new before now outcome) (one_command words obeys.0 (Check dir) obeys.1 spells) obeys.2
 
-pub front : (words : List (List ℕ)) (m n : Option Files) (before now : Option (List ℕ)) (outcome : Result (Unit {0}) Stop) → IfErr outcome (λ stop. stop ≢ OutputFault → now ≡ before)
-    → IfTold m n (λ old new. Obeys words old new before now outcome) → IfSome m (λ files. HasFront words files before now)
+check_front : (words : List (List ℕ)) (old new : Files) (before now : Streams) (dir : List ℕ) (count : ℕ) (outcome : Result Done Stop) → SpellsCheck words dir
+    → IfErr outcome (λ stop. stop ≢ OutputFault → (IsRun words → ⊥) → now.output ≡ before.output) → IsSilent (check.Ends dir old new before.output now.output) outcome → check.Passes dir old count
+    → TookFront before.output now.output (ok_line count)
+check_front words old new before now dir count (Ok Silent) spells quiet ends passes = front_of dir old new before.output now.output count (Ok tt) ends passes tt
+check_front words old new before now dir count (Ok (Ran told lines)) spells quiet ends passes = absurd ends
+check_front words old new before now dir count (Err stop) spells quiet ends passes =
+    front_of dir old new before.output now.output count (Err stop) ends passes (λ apart. quiet apart (λ run. never_run_and_check words run.0 dir run.1 spells))
+
+pub front : (words : List (List ℕ)) (m n : Option Files) (before now : Streams) (outcome : Result Done Stop) → IfErr outcome (λ stop. stop ≢ OutputFault → (IsRun words → ⊥) → now.output ≡ before.output)
+    → IfTold m n (λ old new. Obeys words old new before now outcome) → IfSome m (λ files. HasFront words files before.output now.output)
 front words None n before now outcome quiet obeys = tt
 front words (Some old) None before now outcome quiet obeys = absurd obeys
-front words (Some old) (Some new) before now outcome quiet obeys = λ dir count spells passes. front_of dir old new before now count outcome (check_ends words old new before now dir outcome spells obeys) passes quiet
+front words (Some old) (Some new) before now outcome quiet obeys =
+    λ dir count spells passes. check_front words old new before now dir count outcome spells quiet (check_ends words old new before now dir outcome spells obeys) passes
+
+-- ---- the console of a run
+
+run_ends : (words : List (List ℕ)) (old new : Files) (before now : Streams) (program : Program) (outcome : Result Done Stop) → SpellsRun words program → Obeys words old new before now outcome
+    → run.Ends program old new before now outcome
+run_ends words old new before now program (Err Usage) spells obeys = absurd (obeys.1 (Run program) spells)
+run_ends words old new before now program outcome spells obeys = subst (λ (c : Command). Ends c old new before now outcome) (one_command words obeys.0 (Run program) obeys.1 spells) obeys.2
+
+pub console : (words : List (List ℕ)) (m n : Option Files) (before now : Streams) (outcome : Result Done Stop)
+    → IfTold m n (λ old new. Obeys words old new before now outcome) → IfSome m (λ files. HasConsole words files before now)
+console words None n before now outcome obeys = tt
+console words (Some old) None before now outcome obeys = absurd obeys
+console words (Some old) (Some new) before now outcome obeys = λ program spells. (run_ends words old new before now program outcome spells obeys).front

@@ -4,6 +4,8 @@ pub mod Loading
 pub mod Configuring
 pub mod Instrument
 pub mod Check
+pub mod Streams
+pub mod Run
 pub mod Verdict
 pub mod Endings
 pub mod Answers

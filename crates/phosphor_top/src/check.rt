@@ -1,11 +1,13 @@
 //! The command `check`, in the order of its work.
 
 ghost use Rattle.std.specs.Prelude.{◌≡◌, ◌≢◌, IfErr, IfOk, IfSome, MatchResult, string_bytes};
+ghost use Rattle.command_parts.specs.declared.stop.Stop.{Stop as StopValue};
 ghost use Rattle.outside_io.specs.Files.{Stay};
 ghost use Rattle.command_parts.specs.Lines as lines;
 ghost use Rattle.command_parts.specs.Looks.{Looked};
 ghost use Rattle.phosphor_top.specs.Check.{Causes, Ends, Passes, Refuses};
 ghost use Rattle.phosphor_top.specs.Endings.{IfTold};
+ghost use Rattle.phosphor_top.specs.Verdict.{IsVerdict};
 
 use crate::parts::load;
 use command_parts::{Stop, class_files, put};
@@ -44,6 +46,7 @@ pub(crate) fn check<F: Folder, O: ByteSink>(
     ensures cause { IfErr result (λ stop. Causes stop (F.read_faults folder.old) (F.read_faults folder.new)
         (O.faults out.old) (O.faults out.new)) }
     ensures silent { IfErr result (λ stop. stop ≢ Stop.OutputFault → out.new ≡ out.old) }
+    ensures barred { IfSome (F.files folder.old) (λ files. (refusal : StopValue) → IsVerdict refusal → Refuses dir.now files refusal → out.new ≡ out.old) }
 {
     let count = count_loaded(alloc, folder, dir)?;
     let line = ok_line(alloc, count)?;

@@ -2,8 +2,10 @@
 #![tactic(auto)]
 
 mod check;
+mod done;
 mod instrument;
 mod parts;
+mod run;
 mod top;
 mod words;
 

@@ -3,7 +3,7 @@
 mod check;
 mod instrument;
 mod making;
-mod stepping;
+mod run;
 
 use crate::phosphor;
 use lists::Seq;
@@ -62,8 +62,23 @@ fn answers(
     written: &str,
     line: &str,
 ) -> Result<(), Fail> {
+    answers_on(rt, alloc, text, folder, &[], status, written, line)
+}
+
+/// The same, with what is given on standard input.
+fn answers_on(
+    rt: &impl Abort,
+    alloc: Global,
+    text: &str,
+    folder: &mut MemFolder,
+    given: &[u8],
+    status: u8,
+    written: &str,
+    line: &str,
+) -> Result<(), Fail> {
     let words = words_of(alloc, text)?;
-    let mut input = MemSource::new(Seq::new(alloc), Vec::new(alloc));
+    let given = Seq::from_vec(Vec::from_slice(alloc, given)?);
+    let mut input = MemSource::new(given, Vec::new(alloc));
     let mut out = MemSink::new(alloc, 1_000, Vec::new(alloc))?;
     let mut err = MemSink::new(alloc, 1_000, Vec::new(alloc))?;
     let answer = phosphor(
@@ -90,6 +105,9 @@ fn words_that_are_no_command(rt: HostRuntime) -> Result<(), Fail> {
     for text in [
         "",
         "run in A",
+        "run / A 1",
+        "run in A -1",
+        "run in A 1234567890123456789",
         "--help",
         "instrument in out",
         "instrument // out c",

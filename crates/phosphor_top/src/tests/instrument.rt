@@ -1,9 +1,7 @@
 //! The command `instrument`: the worked rows of the first form.
 
 use super::making::{class_file, sum, sum_with};
-use super::stepping::{Outcome, run_main};
-use super::{answers, empty_folder, lists, sum_folder};
-use class_codec::decode_class;
+use super::{answers, answers_on, empty_folder, lists, sum_folder};
 use outside_io::{Folder, MemFolder};
 use std::alloc::Global;
 use std::process::Abort;
@@ -50,26 +48,26 @@ fn instrument(
     answers(rt, alloc, text, folder, status, "", line)
 }
 
-fn written_sum(rt: &impl Abort, alloc: Global, input: &[u8]) -> Result<Outcome, Fail> {
-    let mut folder = sum_folder(alloc, None)?;
-    instrument(rt, alloc, &mut folder, 0, "")?;
-    let bytes = folder.file("out/A.class").ok_or("no class is written")?;
-    let class = decode_class(alloc, bytes)?;
-    run_main(alloc, &class, input)
-}
-
-fn check_sum(rt: &impl Abort, alloc: Global, input: &[u8], byte: u8) -> Result<(), Fail> {
-    let outcome = written_sum(rt, alloc, input)?;
-    assert!(rt; outcome.console.as_slice() == [byte].as_slice());
-    assert!(rt; outcome.reports.as_slice() == [(0, 0, 1)].as_slice());
-    Ok(())
-}
-
+/// The sum is instrumented, and what is written runs: it reports the tag of the byte that it writes.
 #[test]
 fn sum_of_two_bytes(rt: HostRuntime) -> Result<(), Fail> {
     let alloc = rt.alloc();
-    check_sum(&rt, alloc, &[0x41, 0x01], 0x42)?;
-    check_sum(&rt, alloc, &[0x41], 0x40)
+    let mut folder = sum_folder(alloc, None)?;
+    instrument(&rt, alloc, &mut folder, 0, "")?;
+    let lines = "report 0 0 1\nreturned\n";
+    for (given, console) in [([0x41, 0x01].as_slice(), "B"), ([0x41].as_slice(), "@")] {
+        answers_on(
+            &rt,
+            alloc,
+            "run out A 100",
+            &mut folder,
+            given,
+            0,
+            console,
+            lines,
+        )?;
+    }
+    Ok(())
 }
 
 /// How many of the paths that are written for the sum are there.
